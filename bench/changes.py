@@ -3,10 +3,10 @@
 
 usage: bench/changes.py [--list]
 
-For a rewrite rule, a statement of kernels, a layout, a rule of the nest, a refusal of launch files
-and a command it counts, crate by crate, the files of code, definitions and proofs in which the
-named one stands by one of its names; those of the tests crates and the must-fail edits apart. With
---list the files too. No program is needed.
+For a rewrite rule, a statement of kernels, an operator, a layout and the like it counts, crate by
+crate, the files of code, definitions and proofs in which the named one stands by one of its names;
+those of the tests crates and the must-fail edits apart. With --list the files too. No program is
+needed.
 
 It is a count from above: a file that names it may not have to change for another one, as a proof
 that says what a transposition is; and one that handles it by a name for all the rest isn't counted.
@@ -18,13 +18,16 @@ from pathlib import Path
 
 TOP = Path(__file__).resolve().parent.parent
 CODE = (".rt", ".antt")
-# a barrier as a statement: `barrier_placement` has another type of that name
-BARRIER = r"\bStmt::Barrier\b|\bBarrier \{ on_|\bSyncs\b|\bbarrier\("
 # a change, the one that is looked for, and the names that it has in files
 CHANGES = [
     ("a rewrite rule", "stride-layout", r"\bStrideLayout\b|stride-layout|\bstride_layout\b"),
-    ("a statement of kernels", "barrier", BARRIER),
+    ("a statement of kernels", "vload4", r"\bLoadFour\b|\bLoadsFour\b|vload4"),
+    ("an id form", "get_num_groups", r"\bGroupCount\b|get_num_groups"),
+    ("an operator", "xor", r"\bXor\b|\"xor\""),
     ("a layout", "reverse", r"\bReverse\b|\"reverse\""),
+    ("a layout that is only read", "slide", r"\bSlide\b|\"slide\""),
+    ("a kind of map", "mapSeq", r"\bSequential\b|mapSeq"),
+    ("an element type", "pairs", r"\bPairOf\b|\bTy::Pair\b"),
     ("a rule of the nest", "N11", r"\bN11\b"),
     ("a refusal of launch files", "no task", r"\bNotTask\b"),
     ("a command", "run-stages", r"\bRunStages\b|\brun_stages(_text)?\b|run-stages"),

@@ -10,7 +10,8 @@ output. Another answer is printed, and makes the script end with the status 1.
 
 Seen: in 18 calls 7,589 growths (`run` 289, traced 302, `compile` 213, the tiled stencil's 2,185, `steps` 156, `eval` 121,
 `demo` 2,812, refused calls 45 to 369 each): 13 each time, but for one or two growths a call, where the answer was that
-of the run without. Later in three calls with a fixed local size 5,060: 13 each time, but for four growths a call.
+of the run without. Later in three calls with a fixed local size 5,060, and in three of `stages` and `run-stages` 1,574: 13
+each time, but for four growths a call.
 """
 import json
 import os
@@ -25,6 +26,7 @@ from programs import LIFT
 HERE = Path(__file__).resolve().parent
 ADDED = "size N from 1 to 1000;\ninput xs: [u32; N];\noutput map(\\x. add(x, 1), xs)"
 LAUNCH = {"global": 1, "local": 1, "sizes": {"N": 3}, "inputs": {"xs": [1, 2, 4294967295]}}
+PAIR = {"global": 2, "local": 2}
 STENCIL = HERE.parent / "examples" / "stencil"
 
 # the files that the calls below name
@@ -40,6 +42,8 @@ FILES = {
     "empty": "",
     "kernels": "launch local 2\nat 0 copy\nat 0 to-glb\nat 0 then\nat . to-glb\n",
     "fewer": json.dumps({**LAUNCH, "inputs": {"xs": [1, 2]}}),
+    "both": json.dumps({**LAUNCH, "launches": [PAIR, PAIR]}),
+    "alone": json.dumps({**LAUNCH, "launches": [PAIR]}),
 }
 
 # the name of a call, its words, and the status of the run without a refusal
@@ -49,6 +53,8 @@ CALLS = [
     ("compile", "compile p s", 0),
     ("steps", "steps p s", 0),
     ("eval", "eval p l", 0),
+    ("stages", "stages p kernels", 0),
+    ("run-stages", "run-stages p kernels both", 0),
     ("demo", "demo 7", 0),
     ("the tiled stencil's compile", f"compile {STENCIL}/program.lift {STENCIL}/tiled.txt", 0),
     ("the fixed stencil's run", f"run {STENCIL}/program.lift {STENCIL}/fixed.txt {STENCIL}/fixed.json", 0),
@@ -64,6 +70,7 @@ CALLS = [
     ("status 11", "compile p empty", 11),
     ("status 11, two kernels at a fixed size", "compile p kernels", 11),
     ("status 12", "run p s fewer", 12),
+    ("status 12, one launch for two kernels", "run-stages p kernels alone", 12),
     ("status 12, another size than the fixed one", f"run {STENCIL}/program.lift {STENCIL}/fixed.txt {STENCIL}/tiled.json", 12),
 ]
 OUT_OF_MEMORY = (13, b"", b"lift: memory\n")

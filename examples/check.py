@@ -6,8 +6,9 @@
 Beside a script NAME.txt, NAME.cl is its kernel and NAME.result the line of its run on NAME.json, or
 on launch.json where there is none; of a script with the rule `then` they are what `lift stages` and
 `lift run-stages` write. The value in that line is compared with that of `lift eval`, and
-with that of values.py, its counts with those that counts.py makes of the kernel's text. A launch
-file may say more, for this check alone:
+with that of values.py, its counts with those that counts.py makes of the kernel's text, and the
+lines of `lift cost --items` with those that costs.py makes of the run's events. A launch file may
+say more, for this check alone:
 
     "given": 41             the caller has 41 elements, and filled up what is missing: values.py has
                             the first 41 of each input, and the first 41 of the value are compared
@@ -27,6 +28,7 @@ from functools import cached_property
 from pathlib import Path
 
 import pages
+from costs import costs
 from counts import counts
 from values import VALUES
 
@@ -82,6 +84,15 @@ class Example:
         same = (run["events"], run["releases"]) == counts(text, self.told)
         return [] if same else ["counts"]
 
+    def costs_differ(self):
+        """Whether `cost --items` tells otherwise than the run's events; it is of one kernel."""
+        if self.run != "run":
+            return []
+        trace = self.made("run", self.script, self.launch, "--trace")
+        lines = self.made("cost", self.script, self.launch, "--items")
+        same = trace is not None and lines == costs(trace, self.told["global"])
+        return [] if same else ["cost"]
+
     def calls_before_differ(self):
         """The example that the launch file has at `after`, if its value isn't the first input."""
         name = self.told.get("after")
@@ -114,7 +125,7 @@ def examples_differ(program, store):
     failed = 0
     examples = [Example(program, script) for script in sorted(EXAMPLES.glob("*/*.txt"))]
     for it in examples:
-        wrong = it.values_differ() + it.counts_differ()
+        wrong = it.values_differ() + it.counts_differ() + it.costs_differ()
         stored = it.store() if store and not wrong else []
         wrong += it.differs()
         failed += bool(wrong)

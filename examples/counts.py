@@ -5,36 +5,11 @@ of a turn, the test of an `if`, and one release for each barrier that a group go
 they come in doesn't matter to their number, so each work-item's steps are counted by themselves.
 """
 import re
+import sys
+from pathlib import Path
 
-LOOP = re.compile(r"for \(uint (i\d+) = (.*); i\d+ < (.*); i\d+ \+= (.*)\) \{")
-TEST = re.compile(r"if \((.*) < (.*)\) \{")
-DECLARATION = re.compile(r"(__local )?uint \w+(\[\d+\])?;")
-
-
-def kernels_of(text):
-    """The kernels of a text, in order."""
-    return re.split(r"^(?=__kernel )", text, flags=re.M)[1:]
-
-
-def launches_of(launch):
-    """The launch of each kernel: those at `launches`, or the file's own alone."""
-    return [{**launch, **it} for it in launch.get("launches", [launch])]
-
-
-def statements(kernel):
-    """A kernel's body: its statements, a loop or an `if` as its head's parts and its body."""
-    lines = [line.strip() for line in kernel.splitlines()[2:]]
-    return block(iter([line for line in lines if not DECLARATION.fullmatch(line)]))
-
-
-def block(lines):
-    made = []
-    for line in lines:
-        head = LOOP.fullmatch(line) or TEST.fullmatch(line)
-        if line == "}":
-            break
-        made.append((*head.groups(), block(lines)) if head else line)
-    return made
+sys.path.insert(0, str(Path(__file__).resolve().parent.parent / "tools"))
+from kernels import kernels_of, launches_of, names_of, statements
 
 
 def number(expression, names):
@@ -70,14 +45,6 @@ def loop(variable, start, bound, step, inner, names):
         more, past = steps(inner, {**names, variable: turn})
         events, barriers = events + more + 1, barriers + past
     return events, barriers
-
-
-def names_of(item, launch):
-    """What an item's expressions may name, but for loop variables and private ones."""
-    total, group = launch["global"], launch["local"]
-    sizes = {f"s{k}": size for k, size in enumerate(launch["sizes"].values())}
-    sizes |= {"global_size": total, "local_size": group, "num_groups": total // group}
-    return sizes | {"global_id": item, "local_id": item % group, "group_id": item // group}
 
 
 def counts_of(kernel, launch):

@@ -5,22 +5,20 @@
 
 The comment at a program's head says what is computed, that at the head of a script NAME.txt what
 the strategy is: the page has these, the rest of the script, the last term, the kernel and the run
-on NAME.json, or on launch.json where there is none, drawn by picture.py. A line that is empty parts
-a head from a comment on the first step. With --check nothing is written, and what isn't as it would
-be is named.
+on NAME.json, or on launch.json where there is none, drawn by tools/picture.py. A line that is empty
+parts a head from a comment on the first step. With --check nothing is written, and what isn't as it
+would be is named.
 """
-import json
 import os
 import subprocess
 import sys
 from pathlib import Path
 
-import inorder
-import pages
-from counts import kernels_of
-from picture import picture, run
-
 EXAMPLES = Path(__file__).resolve().parent
+sys.path.insert(0, str(EXAMPLES.parent / "tools"))
+from kernels import kernels_of
+from picture import Run, picture, runs_of
+
 DOCS = EXAMPLES.parent / "docs"
 PICTURES = DOCS / "gallery"
 # From what is simple on; folders that aren't named come behind, by name.
@@ -46,16 +44,17 @@ step, and [LESSON.md](LESSON.md) goes through one program step by step. `example
 this page.
 
 A script that cuts its term by `then` has several kernels in order, of which `lift stages` writes the
-text and each has a picture of its own run; those runs are made by `examples/inorder.py` from the
+text; their runs stand below one another in one picture, and are made by `tools/device.py` from the
 text alone.
 
 A script `fixed` begins with `launch local K`: its kernel asks for groups of K, and has an `if` or no
 statement at all where the one beside it has a loop over items ([PRINTED.md](PRINTED.md)).
 
-A picture shows a run: a row for each work-item, a column for each event, and below the arrays at
-the run's end, a local one once for each group, with who wrote each cell and who read it. Accesses
-of private memory are among the other steps. `examples/picture.py PROGRAM SCRIPT LAUNCH > run.svg`
-draws a run of your own.
+A picture shows a run: a row for each work-item and a column for each event, or, of a run of many
+events, a row for each group with what its items do between barriers. Below stand the arrays at the
+run's end in rows of their type, a local one once for each group, with who wrote each cell and who
+read it; the items of a group have one hue. Accesses of private memory are among the other steps.
+`tools/picture.py PROGRAM SCRIPT LAUNCH > run.svg` draws a run of your own.
 """
 
 
@@ -93,48 +92,36 @@ def launch_of(script):
     return launch if launch.exists() else script.parent / "launch.json"
 
 
-def runs_of(program, script):
-    """Each kernel with its run: its launch, its events and its counts."""
-    source, launch = script.parent / "program.lift", launch_of(script)
-    text = script.with_suffix(".cl").read_text()
-    if pages.commands(script)[0] == "compile":
-        return [(text, run(program, source, script, launch))]
-    told = json.loads(launch.read_text())
-    lists = inorder.input_lists(source.read_text(), told)
-    return list(zip(kernels_of(text), inorder.runs(text, told, lists), strict=True))
-
-
-def counted(kernel, started, result):
+def counted(kernel: str, run: Run) -> str:
     """The counts of a kernel's run, in words."""
+    counts, items = run.counts, run.launch["global"]
     return (
-        f"{result['events']} events, {result['releases']} releases,"
-        f" {kernel.count('barrier(')} barriers in the text, by {started['global']}"
-        f" work-item{'s' if started['global'] > 1 else ''} in groups of {started['local']}."
+        f"{counts['events']} events, {counts['releases']} releases,"
+        f" {kernel.count('barrier(')} barriers in the text, by {items}"
+        f" work-item{'s' if items > 1 else ''} in groups of {run.launch['local']}."
     )
 
 
 def strategy(program, script):
     """A strategy's part of the page, and its pictures by their names."""
     told, steps = head_and_rest(script)
-    runs = runs_of(program, script)
+    runs = runs_of(script.parent / "program.lift", script, launch_of(script))
+    text = script.with_suffix(".cl").read_text()
+    counts = list(map(counted, kernels_of(text), runs))
+    if len(runs) > 1:
+        counts = [f"`{run.name}`: {told}" for run, told in zip(runs, counts)]
+    name = f"{script.parent.name}-{script.stem}.svg"
     parts = [
         f"### {script.stem}\n\n{told}\n",
         block("", steps),
         "The last term:\n",
         block("", last_term(program, script)),
         "Its kernel:\n" if len(runs) == 1 else "Its kernels, in order:\n",
-        block("c", script.with_suffix(".cl").read_text()),
+        block("c", text),
+        *[f"{it}\n" for it in counts],
+        f"![{told or script.stem}](gallery/{name})\n",
     ]
-    pictures = {}
-    for number, (kernel, (started, events, result)) in enumerate(runs):
-        which = "" if len(runs) == 1 else f"-{number}"
-        name = f"{script.parent.name}-{script.stem}{which}.svg"
-        first = f"`lift{number}`: " if which else ""
-        parts.append(
-            f"{first}{counted(kernel, started, result)}\n\n![{told or script.stem}](gallery/{name})\n"
-        )
-        pictures[name] = picture(started, events, result)
-    return "\n".join(parts), pictures
+    return "\n".join(parts), {name: picture(runs)}
 
 
 def scripts_of(folder):
@@ -171,10 +158,13 @@ def main():
     program = Path(words[0] if words else EXAMPLES.parent / "lift").resolve()
     if not os.access(program, os.X_OK):
         sys.exit(f"examples/gallery.py: there is no program {program}")
+    os.environ["LIFT"] = str(program)
     files = made(program)
     if "--check" in sys.argv:
         return check(files)
     PICTURES.mkdir(exist_ok=True)
+    for path in set(PICTURES.glob("*.svg")).difference(files):
+        path.unlink()
     for path, text in files.items():
         path.write_text(text)
     return False

@@ -1,15 +1,15 @@
 #!/usr/bin/env python3
-"""Runs docs/LESSON.md, and writes into it what comes.
+"""Runs the lessons and README, and writes into them what comes.
 
     examples/lesson.py [--check] [PROGRAM]      PROGRAM is ./lift where none is given
 
 - A heading `### K. STEP` is the K-th step of a script, behind the K - 1 steps before it. What the
-  steps of a part come to is a script of docs/lesson.
+  steps of a part come to is a script of docs/lesson. The first lesson alone has such headings.
 - A block ```term gets the term after the step.
 - A line `Tried first:` has steps and, behind them, the line by which `lift compile` refuses them
   behind the steps before this one.
 - In a block that begins with `$ ` each such line is run, in a folder that has the program as
-  ./lift, examples and docs; what it writes stands below it. A picture made there is one of
+  ./lift, examples, tools and docs; what it writes stands below it. A picture made there is one of
   docs/lesson.
 
 With --check nothing is written, and what differs is told.
@@ -23,8 +23,8 @@ from itertools import zip_longest
 from pathlib import Path
 
 TOP = Path(__file__).resolve().parent.parent
-PAGE = TOP / "docs" / "LESSON.md"
-FILES = TOP / "docs" / "lesson"
+FIRST, FILES = TOP / "docs" / "LESSON.md", TOP / "docs" / "lesson"
+PAGES = [FIRST, TOP / "docs" / "LESSON_MATRIX.md", TOP / "README.md"]
 PROGRAM = "docs/lesson/program.lift"
 
 
@@ -34,7 +34,7 @@ class Lesson:
     def __init__(self, folder, program):
         self.folder, self.steps, self.made = Path(folder), [], []
         (self.folder / "lift").symlink_to(program)
-        for name in ("examples", "docs"):
+        for name in ("examples", "tools", "docs"):
             (self.folder / name).symlink_to(TOP / name)
 
     def called(self, command):
@@ -98,16 +98,28 @@ def stored_scripts():
     return sorted([it for it in lines if it and not it.startswith("#")] for lines in texts)
 
 
-def faults(lesson, text, refreshed):
+def faults(lesson, page, refreshed):
     """What isn't as the page has it."""
-    pairs = zip_longest(text.splitlines(), refreshed.splitlines())
+    pairs = zip_longest(page.read_text().splitlines(), refreshed.splitlines())
     for stands, comes in [(old, new) for old, new in pairs if old != new][:1]:
-        yield f"{stands!r} stands there, and {comes!r} comes"
-    if sorted(lesson.made) != stored_scripts():
+        yield f"{page.name}: {stands!r} stands there, and {comes!r} comes"
+    if page == FIRST and sorted(lesson.made) != stored_scripts():
         yield "the steps aren't those of docs/lesson"
     for path in lesson.folder.glob("*.svg"):
         if not (FILES / path.name).exists() or path.read_text() != (FILES / path.name).read_text():
             yield f"docs/lesson/{path.name} isn't the picture that is made"
+
+
+def page_otherwise(page, program, check):
+    """What isn't as the page has it, which is written where it isn't to be checked alone."""
+    with tempfile.TemporaryDirectory() as folder:
+        lesson = Lesson(folder, program)
+        refreshed = lesson.refreshed(page.read_text())
+        if not check:
+            page.write_text(refreshed)
+            for path in lesson.folder.glob("*.svg"):
+                (FILES / path.name).write_text(path.read_text())
+        return list(faults(lesson, page, refreshed))
 
 
 def main():
@@ -115,17 +127,8 @@ def main():
     program = Path(words[0] if words else TOP / "lift").resolve()
     if not os.access(program, os.X_OK):
         sys.exit(f"examples/lesson.py: there is no program {program}")
-    text = PAGE.read_text()
-    with tempfile.TemporaryDirectory() as folder:
-        lesson = Lesson(folder, program)
-        refreshed = lesson.refreshed(text)
-        if "--check" not in sys.argv:
-            PAGE.write_text(refreshed)
-            for path in lesson.folder.glob("*.svg"):
-                (FILES / path.name).write_text(path.read_text())
-            text = refreshed
-        wrong = list(faults(lesson, text, refreshed))
-    print("\n".join([*wrong, f"lesson: {len(lesson.made)} scripts, {len(wrong)} faults"]))
+    wrong = [it for page in PAGES for it in page_otherwise(page, program, "--check" in sys.argv)]
+    print("\n".join([*wrong, f"lessons: {len(PAGES)} pages, {len(wrong)} faults"]))
     return bool(wrong)
 
 

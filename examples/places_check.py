@@ -1,5 +1,5 @@
 #!/usr/bin/env python3
-"""Checks the places that places.py shows by what the built program does there.
+"""Checks the places that tools/places.py shows by what the built program does there.
 
     examples/places_check.py [PROGRAM]      PROGRAM is ./lift where none is given
 
@@ -14,9 +14,10 @@ import sys
 import tempfile
 from pathlib import Path
 
+EXAMPLES = Path(__file__).resolve().parent
+sys.path.insert(0, str(EXAMPLES.parent / "tools"))
 from places import named, nodes, parsed, tree
 
-EXAMPLES = Path(__file__).resolve().parent
 RULES = EXAMPLES.parent / "docs" / "RULES.md"
 LOWERED = {
     "to-glb": ("map", "mapGlb"),

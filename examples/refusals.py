@@ -18,6 +18,7 @@ PROGRAM = os.path.abspath(sys.argv[1]) if len(sys.argv) > 1 else f"{TOP}/lift"
 ADDED = "size N from 1 to 1000; input xs: [u32; N]; output map(\\x. add(x, 1), xs)"
 ROWS_OF = "input xs: [[u32; 2]; 3]; output "
 ARRAY = "size N from 1 to 1000; input xs: [u32; N]; output "
+FOUR = "input xs: [(u32, (u32, (u32, u32))); 2]; input ys: [u32; 2]; output "
 LAUNCH = {"global": 1, "local": 1, "sizes": {"N": 3}, "inputs": {"xs": [1, 2, 3]}}
 
 
@@ -45,6 +46,13 @@ STAGED = "input xs: [u32; 4]; output map(\\x. add(x, 1), map(\\x. mul(x, 2), xs)
 CUTS = "at 0 to-glb\nat 0 then\nat . to-glb"
 TWO = [{"global": 2, "local": 1}, {"global": 2, "local": 1}]
 UNDER = "input xs: [u32; 2]; output let y = map(\\x. x, xs) in map(\\z. fold(\\a b. add(a, b), z, y), xs)"
+
+# an array that two later kernels read, and the cuts of both, of which one stands in a let's body
+READ_TWICE = (
+    "input xs: [u32; 2]; output let s = map(\\x. mul(x, x), xs) in let t = map(\\x. add(x, 1), s) in"
+    " map(\\p. add(first(p), second(p)), zip(s, t))"
+)
+FIRST_CUTS = "at 0 to-glb\nat 0 then\nat . let-inline\nat 0 to-glb\nat 0 then\n"
 
 
 def launches(each):
@@ -88,6 +96,7 @@ ROWS = [
     ("output 1", None, None, 7, "lift: type: output at ."),
     ("input xs: [[[[[u32; 1]; 1]; 1]; 1]; 1]; output xs", None, None, 10, "lift: limit arrays: 5"),
     ("input xs: [(u32, (u32, (u32, (u32, u32)))); 1]; output xs", None, None, 10, "lift: limit components: 5"),
+    (FOUR + "map(\\p. add(first(first(p)), second(p)), zip(xs, ys))", None, None, 10, "lift: limit components: 5"),
     (declarations("size N{} from 1 to 2; ", 8) + f"input xs: [u32; {monomials(33)}]; output xs", None, None, 10, "lift: limit terms: 33"),
     ("size N from 1 to 2; input xs: [u32; N*N*N*N*N]; output xs", None, None, 10, "lift: limit degree: 5"),
     ("input xs: [u32; 2*4294967295*0]; output xs", None, None, 10, "lift: limit coefficient: 8589934590"),
@@ -140,6 +149,10 @@ ROWS = [
 # the same of several kernels
 IN_ORDER = [
     (UNDER, "at 0 then\nat . let-inline", None, 11, "lift: nest: N13 at 1.0"),
+    (READ_TWICE, FIRST_CUTS + "at 1 to-glb", None, 11, "lift: nest: N13 at 1.0.0"),
+    (READ_TWICE, "at 0 then\nat 1.0 then", None, 9, "lift: step 2: side closed"),
+    (STAGED, "at 0 to-wrg\nat 0 then\nat . to-glb", None, 11, "lift: nest: N4 at 1"),
+    (STAGED, "at 0 to-glb\nat 0 then", None, 11, "lift: nest: N1 at ."),
     (stages(17), cuts(17), None, 10, "lift: limit kernels: 17"),
     (STAGED, CUTS, launch(**{"global": 2, "sizes": {}, "inputs": {"xs": [1, 2, 3, 4]}}), 12, "lift: launch: missing launches"),
     (STAGED, CUTS, launches(TWO[:1]), 12, "lift: launch: missing launches"),
@@ -198,6 +211,9 @@ MENDED = [
     ("N13", ADDED, "at 0 copy\nat . fuse-map\nat . to-glb"),
     ("N13", ADDED, CUT + "at . to-glb"),
     ("N13", UNDER, "at 1.1 fold-seq\nat 0 to-glb\nat 0 then\nat 1 to-glb"),
+    ("N13", READ_TWICE, FIRST_CUTS + "at . let-inline\nat . to-glb"),
+    ("side closed", READ_TWICE, FIRST_CUTS),
+    ("components", FOUR + "map(\\x. map(\\y. add(first(x), y), ys), xs)", None),
     ("kernels", stages(16), cuts(16)),
     ("layouts", LAYERS, "at 0 join-split\nat . to-seq"),
     ("local", LARGE, LOCAL_COPY.format(6)),

@@ -15,12 +15,12 @@ __kernel void lift(__global const uint *a0, __global const uint *a1, __global ui
     for (uint i1 = (uint)get_local_id(0); i1 < 64u; i1 += (uint)get_local_size(0)) {
       v1 = 0u;
       for (uint i2 = 0u; i2 < 9u; i2 += 1u) {
-        v2 = l0[((((i1 % 8u) + (i2 / 3u)) * 10u) + ((i1 / 8u) + (i2 % 3u)))];
+        v2 = l0[((((i1 / 8u) + (i2 / 3u)) * 10u) + ((i1 % 8u) + (i2 % 3u)))];
         v3 = a1[i2];
         v4 = (v2 * v3);
         v1 = (v1 + v4);
       }
-      o0[(((((((i0 * 8u) + (i1 % 8u)) % (8u * s1)) * s0) + (i0 / s1)) * 8u) + (i1 / 8u))] = v1;
+      o0[(((((((i0 % s1) * 8u) + (i1 / 8u)) * s0) + (i0 / s1)) * 8u) + (i1 % 8u))] = v1;
     }
     barrier(CLK_LOCAL_MEM_FENCE);
   }

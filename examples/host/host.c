@@ -1,11 +1,12 @@
-/* Runs a program's kernel on an OpenCL device, or its kernels in order, and compares with the program's value.
+/* Runs a program's kernel on an OpenCL device, or its kernels in order, and compares with the
+ * program's value.
  *
  *     host PROGRAM SCRIPT LAUNCH
  *
- * A launch file with the key `launches` is for the kernels of `lift stages`; in it each kernel but the last has a key
- * `cells` too, the length of its scratch arrays, which `lift` passes over. Prints the value. Exit status 0: the device gave the value that `lift eval` gives; 1: another; 2: it didn't come so
- * far. The environment's LIFT names the program `lift` (./lift where it isn't set); the device is the first one there.
- * docs/HOST.md explains each step. POSIX and OpenCL 1.2. */
+ * A launch file with the key `launches` is for the kernels of `lift stages`. Prints the value. Exit
+ * status 0: the device gave the value that `lift eval` gives; 1: another; 2: it didn't come so far.
+ * The environment's LIFT names the program `lift` (./lift where it isn't set); the device is the
+ * first one there. docs/HOST.md explains each step. POSIX and OpenCL 1.2. */
 #include <CL/cl.h>
 #include <ctype.h>
 #include <stdarg.h>
@@ -15,7 +16,8 @@
 #include <sys/wait.h>
 #include <unistd.h>
 
-/* A program has at most 8 sizes, 8 inputs, 32 bytes a name, and 4 components a type; a script at most 16 kernels. */
+/* A program has at most 8 sizes, 8 inputs, 32 bytes a name, and 4 components a type; a script at
+ * most 16 kernels. */
 enum { NAMES = 8, NAME_BYTES = 33, KERNELS = 16, BUFFERS = (NAMES + KERNELS) * 4 };
 static const cl_uint UNWRITTEN = 0xDEADBEEF;
 
@@ -100,6 +102,7 @@ typedef struct {
   int sizes, inputs;
   char size[NAMES][NAME_BYTES], input[NAMES][NAME_BYTES];
   int components[NAMES]; /* of each input: as many as its type names u32 */
+  size_t length;         /* of their text */
 } Declarations;
 
 /* The next name or number behind `at`, past comments; false at the end. */
@@ -116,11 +119,14 @@ static int next_word(const char **at, char word[NAME_BYTES]) {
 static Declarations declarations(const char *program) {
   Declarations made = {0};
   char word[NAME_BYTES];
+  const char *begin = program;
   while (next_word(&program, word) && strcmp(word, "output") != 0) {
     if (strcmp(word, "size") == 0) next_word(&program, made.size[made.sizes++]);
     if (strcmp(word, "input") == 0) next_word(&program, made.input[made.inputs++]);
     if (strcmp(word, "u32") == 0) made.components[made.inputs - 1]++;
   }
+  if (strcmp(word, "output") != 0) fail("a zero byte stands in the program's text");
+  made.length = (size_t)(program - begin) - strlen("output");
   return made;
 }
 
@@ -138,15 +144,20 @@ static const char *value_end(const char *at) {
   int depth = 0;
   do {
     at = past(at, " \t\r\n,:");
-    if (*at == '"') at = string_end(at);
-    else if (*at == '[' || *at == '{') depth++, at++;
-    else if (*at == ']' || *at == '}') depth--, at++;
-    else at += strcspn(at, "[]{},: \t\r\n\"");
+    if (*at == '"')
+      at = string_end(at);
+    else if (*at == '[' || *at == '{')
+      depth++, at++;
+    else if (*at == ']' || *at == '}')
+      depth--, at++;
+    else
+      at += strcspn(at, "[]{},: \t\r\n\"");
   } while (depth > 0);
   return at;
 }
 
-/* The value at a key, the last one where there are several; NULL where there is none. Keys stand without escapes. */
+/* The value at a key, the last one where there are several; NULL where there is none without an
+ * escape in its key. */
 static const char *member(const char *object, const char *key) {
   const char *found = NULL;
   const char *at = past(past(object, " \t\r\n") + 1, " \t\r\n");
@@ -161,6 +172,13 @@ static const char *member(const char *object, const char *key) {
   return found;
 }
 
+/* The value at a key that `lift` has found. */
+static const char *told(const char *object, const char *key) {
+  const char *found = member(object, key);
+  if (!found) fail("the key %s of the launch file is written with an escape", key);
+  return found;
+}
+
 /* The numbers of a value, from left to right: row-major, the parts of a pair together. */
 static cl_uint *numbers(const char *value, size_t *count) {
   const char *end = value_end(value);
@@ -172,15 +190,13 @@ static cl_uint *numbers(const char *value, size_t *count) {
   return made;
 }
 
-static size_t number_at(const char *object, const char *key, const char *why) {
-  const char *at = member(object, key);
-  const char *end = at ? past(at, "0123456789") : NULL;
-  if (!at || end == at || !strchr(" \t\r\n,}", *end)) fail("the launch file has no number at the key %s: %s", key, why);
-  return (size_t)strtoull(at, NULL, 10);
-}
-
 static size_t work_items(const char *launch, const char *key) {
-  return number_at(launch, key, "`lift eval` needs none, a kernel does");
+  const char *at = member(launch, key);
+  const char *end = at ? past(at, "0123456789") : NULL;
+  if (!at || end == at || !strchr(" \t\r\n,}", *end))
+    fail("the launch file has no number of work-items at the key %s: "
+         "`lift eval` needs none, a kernel does", key);
+  return (size_t)strtoull(at, NULL, 10);
 }
 
 /* The members of a list, at most KERNELS; how many there are. */
@@ -217,30 +233,143 @@ static Stage stage_of(const char *kernel, const char *launch) {
   made.outputs = (cl_uint)count_of(kernel, "__global uint *");
   made.global = work_items(launch, "global");
   made.local = work_items(launch, "local");
-  if (made.local < 1 || made.local > 256 || made.global < 1 || made.global > 65536 || made.global % made.local != 0)
-    fail("global %zu, local %zu: local is 1 to 256, global 1 to 65536, and local divides global", made.global, made.local);
+  if (made.local < 1 || made.local > 256 || made.global < 1 || made.global > 65536 ||
+      made.global % made.local != 0)
+    fail("global %zu, local %zu: local is 1 to 256, global 1 to 65536, and local divides global",
+         made.global, made.local);
   size_t fixed = fixed_size(kernel);
-  if (fixed && fixed != made.local) fail("local %zu: this kernel is for groups of %zu", made.local, fixed);
-  if (made.global != 1 && !strstr(kernel, "get_")) fail("global %zu: this kernel is for one work-item", made.global);
+  if (fixed && fixed != made.local)
+    fail("local %zu: this kernel is for groups of %zu", made.local, fixed);
+  if (made.global != 1 && !strstr(kernel, "get_"))
+    fail("global %zu: this kernel is for one work-item", made.global);
   return made;
 }
 
-/* The kernels of a text in order; the last one's outputs have so many numbers in all. */
-static int stages(char *text, const char *launch, size_t numbers_in_all, Stage made[KERNELS]) {
+/* The kernels of a text in order. How long their outputs are isn't told there. */
+static int stages(char *text, const char *launch, Stage made[KERNELS]) {
   const char *list = member(launch, "launches"), *launches[KERNELS] = {launch};
+  if (list && *list != '[') fail("the launch file has no list at the key launches");
   int count = list ? members(list, launches) : 1, found = 0;
-  if (count != count_of(text, "__kernel ")) fail("%d launches for %d kernels", count, count_of(text, "__kernel "));
+  if (count != count_of(text, "__kernel "))
+    fail("%d launches for %d kernels", count, count_of(text, "__kernel "));
   for (char *at = text, *next; found < count; at = next) {
     next = strstr(at + 1, "__kernel ");
     if (next) next[-1] = 0;
     made[found] = stage_of(at, launches[found]);
     if (next) next[-1] = '\n';
     found++;
-    made[found - 1].length = found < count
-        ? number_at(launches[found - 1], "cells", "a host has to know how long the arrays between kernels are")
-        : numbers_in_all / made[found - 1].outputs;
   }
   return count;
+}
+
+/* ---- the lengths of what kernels make ----
+ *
+ * Each kernel but the last makes the array that stands under a `then` of the script's last term.
+ * With plain forms in place of lowered ones that array is a program of its own, and `lift eval`
+ * prints its value: as many numbers as the kernel's outputs have in all. */
+
+static int is_name(char byte) { return isalnum((unsigned char)byte) || byte == '_'; }
+
+/* How far a name reaches, 0 where none begins here. */
+static size_t name_length(const char *at) {
+  size_t length = 0;
+  while (is_name(at[length])) length++;
+  return length;
+}
+
+static int is_form(const char *name, size_t length, const char *form) {
+  return length == strlen(form) && memcmp(name, form, length) == 0;
+}
+
+/* What stands in a program for a form of a script's terms: NULL where it stands there too. */
+static const char *plain_form(const char *name, size_t length) {
+  static const char *const pairs[][2] = {{"mapGlb", "map"}, {"mapWrg", "map"},   {"mapLcl", "map"},
+                                         {"mapSeq", "map"}, {"foldSeq", "fold"}, {"toLocal", ""},
+                                         {"toPrivate", ""}, {"then", ""}};
+  for (size_t k = 0; k < sizeof pairs / sizeof *pairs; k++)
+    if (is_form(name, length, pairs[k][0])) return pairs[k][1];
+  return NULL;
+}
+
+/* A letter that no input's name begins with: binders are named _K, which no program may, and get it
+ * in front. */
+static char free_letter(const Declarations *declared) {
+  char letter = 'a';
+  for (int k = 0; k < declared->inputs;)
+    if (declared->input[k++][0] == letter) letter++, k = 0;
+  return letter;
+}
+
+/* Writes a term of a script as a program has it: plain forms for lowered ones, and no copies. */
+static void write_plain(FILE *file, const char *term, size_t length, char letter) {
+  char *copy = memory(length + 1, 1); /* of each parenthesis around: whether it is a copy's */
+  size_t depth = 0;
+  for (const char *end = term + length; term < end;) {
+    size_t name = name_length(term);
+    const char *plain = name && term[name] == '(' ? plain_form(term, name) : NULL;
+    if (plain && !*plain) {
+      copy[depth++] = 1;
+      term += name + 1;
+    } else if (name) {
+      if (*term == '_') fputc(letter, file);
+      if (plain)
+        fputs(plain, file);
+      else
+        fwrite(term, 1, name, file);
+      term += name;
+    } else {
+      if (*term == '(') copy[depth++] = 0;
+      if (*term != ')' || !copy[--depth]) fputc(*term, file);
+      term++;
+    }
+  }
+  free(copy);
+}
+
+/* How many numbers the value of a term has, with the program's declarations and the launch file's
+ * inputs. */
+static size_t numbers_of(const char *term, size_t length, const char *program,
+                         const Declarations *declared, const char *launch) {
+  char path[] = "/tmp/lift-host-XXXXXX";
+  int descriptor = mkstemp(path);
+  FILE *file = descriptor < 0 ? NULL : fdopen(descriptor, "wb");
+  if (!file) fail("can't write %s", path);
+  fwrite(program, 1, declared->length, file);
+  fputs("output ", file);
+  write_plain(file, term, length, free_letter(declared));
+  if (fclose(file) != 0) fail("can't write %s", path);
+  size_t count;
+  char *line = lift("eval", path, launch);
+  remove(path);
+  free(numbers(told(line, "value"), &count));
+  free(line);
+  return count;
+}
+
+/* Works out the lengths of what all kernels but the last make. A kernel's `then` stands before
+ * another's in postorder where it is closed before. */
+static void work_out_lengths(const char *steps, const char *program, const Declarations *declared,
+                             const char *launch, Stage stage[], int kernels) {
+  const char *term = steps, *line;
+  while ((line = strchr(term, '\n')) && line[1]) term = line + 1;
+  /* of each parenthesis around what stands in it, if it is a `then`'s */
+  const char **open = memory(strlen(term) + 1, sizeof *open);
+  size_t depth = 0;
+  int found = 0;
+  for (const char *at = term; *at; at++) {
+    if (*at == '(') {
+      int is_then =
+          at - term >= 4 && is_form(at - 4, 4, "then") && (at - term == 4 || !is_name(at[-5]));
+      open[depth++] = is_then ? at + 1 : NULL;
+    }
+    if (*at == ')' && depth > 0 && open[--depth] && found < kernels - 1) {
+      size_t count = numbers_of(open[depth], (size_t)(at - open[depth]), program, declared, launch);
+      stage[found].length = count / stage[found].outputs;
+      found++;
+    }
+  }
+  free(open);
+  if (found != kernels - 1) fail("%d arrays between %d kernels", found, kernels);
 }
 
 /* ---- buffers ---- */
@@ -255,7 +384,8 @@ typedef struct {
 static void add_buffer(Host *host, cl_uint *cells, size_t length) {
   cl_int status;
   cl_mem_flags access = CL_MEM_READ_WRITE | CL_MEM_COPY_HOST_PTR;
-  host->buffer[host->buffers++] = clCreateBuffer(host->context, access, length * sizeof *cells, cells, &status);
+  host->buffer[host->buffers++] =
+      clCreateBuffer(host->context, access, length * sizeof *cells, cells, &status);
   check(status, "clCreateBuffer");
 }
 
@@ -267,13 +397,15 @@ static void add_outputs(Host *host, const Stage *stage) {
   free(cells);
 }
 
-/* One buffer for each component: number k of the value is cell k / components of buffer k % components. */
+/* One buffer for each component: number k of the value is cell k / components of
+ * buffer k % components. */
 static void add_input(Host *host, const char *value, int components) {
   size_t count;
   cl_uint *flat = numbers(value, &count), *cells = memory(count, sizeof *cells);
   size_t length = count / (size_t)components;
   for (int k = 0; k < components; k++) {
-    for (size_t cell = 0; cell < length; cell++) cells[cell] = flat[cell * (size_t)components + (size_t)k];
+    for (size_t cell = 0; cell < length; cell++)
+      cells[cell] = flat[cell * (size_t)components + (size_t)k];
     add_buffer(host, cells, length);
   }
   free(flat);
@@ -302,7 +434,8 @@ static cl_device_id first_device(void) {
   if (clGetPlatformIDs(16, platforms, &count) != CL_SUCCESS) count = 0;
   for (cl_uint k = 0; k < count && k < 16; k++)
     if (clGetDeviceIDs(platforms[k], CL_DEVICE_TYPE_ALL, 1, &device, NULL) == CL_SUCCESS) {
-      check(clGetDeviceInfo(device, CL_DEVICE_NAME, sizeof name - 1, name, NULL), "clGetDeviceInfo");
+      check(clGetDeviceInfo(device, CL_DEVICE_NAME, sizeof name - 1, name, NULL),
+            "clGetDeviceInfo");
       fprintf(stderr, "host: %s\n", name);
       return device;
     }
@@ -323,18 +456,22 @@ static cl_program built(cl_context context, cl_device_id device, const char *tex
   return program;
 }
 
-/* Runs a kernel: its parameters are the buffers so far, its own outputs the last, and then the sizes. */
-static void run(Host *host, cl_program program, const Stage *stage, const cl_uint *sizes, int size_count) {
+/* Runs a kernel: its parameters are the buffers so far, its own outputs the last, and then the
+ * sizes. */
+static void run(Host *host, cl_program program, const Stage *stage, const cl_uint *sizes,
+                int size_count) {
   cl_int status;
   cl_uint parameter = 0;
   cl_kernel kernel = clCreateKernel(program, stage->name, &status);
   check(status, "clCreateKernel");
   add_outputs(host, stage);
   for (; parameter < host->buffers; parameter++)
-    check(clSetKernelArg(kernel, parameter, sizeof(cl_mem), &host->buffer[parameter]), "clSetKernelArg");
+    check(clSetKernelArg(kernel, parameter, sizeof(cl_mem), &host->buffer[parameter]),
+          "clSetKernelArg");
   for (int k = 0; k < size_count; k++)
     check(clSetKernelArg(kernel, parameter++, sizeof sizes[k], &sizes[k]), "clSetKernelArg");
-  check(clEnqueueNDRangeKernel(host->queue, kernel, 1, NULL, &stage->global, &stage->local, 0, NULL, NULL),
+  check(clEnqueueNDRangeKernel(host->queue, kernel, 1, NULL, &stage->global, &stage->local, 0, NULL,
+                               NULL),
         "clEnqueueNDRangeKernel");
   clReleaseKernel(kernel);
 }
@@ -347,9 +484,12 @@ int main(int count, char **words) {
   char *text = lift(member(launch, "launches") ? "stages" : "compile", words[1], words[2]);
   Declarations declared = declarations(program_text);
   size_t cells_in_all;
-  cl_uint *expected = numbers(member(expected_line, "value"), &cells_in_all);
+  cl_uint *expected = numbers(told(expected_line, "value"), &cells_in_all);
   Stage stage[KERNELS];
-  int kernels = stages(text, launch, cells_in_all, stage);
+  int kernels = stages(text, launch, stage);
+  char *steps = lift("steps", words[1], words[2]);
+  work_out_lengths(steps, program_text, &declared, words[3], stage, kernels);
+  stage[kernels - 1].length = cells_in_all / stage[kernels - 1].outputs;
 
   cl_int status;
   Host host = {0};
@@ -363,16 +503,17 @@ int main(int count, char **words) {
   /* Inputs, then what the kernels before made, then a kernel's own outputs, then sizes. */
   cl_uint sizes[NAMES];
   for (int k = 0; k < declared.sizes; k++)
-    sizes[k] = (cl_uint)strtoul(member(member(launch, "sizes"), declared.size[k]), NULL, 10);
+    sizes[k] = (cl_uint)strtoul(told(told(launch, "sizes"), declared.size[k]), NULL, 10);
   for (int k = 0; k < declared.inputs; k++)
-    add_input(&host, member(member(launch, "inputs"), declared.input[k]), declared.components[k]);
+    add_input(&host, told(told(launch, "inputs"), declared.input[k]), declared.components[k]);
   for (int k = 0; k < kernels; k++) run(&host, program, &stage[k], sizes, declared.sizes);
 
   cl_uint components = stage[kernels - 1].outputs, first = host.buffers - components;
   size_t length = stage[kernels - 1].length;
   cl_uint *found = memory(cells_in_all, sizeof *found), *cells = memory(length, sizeof *cells);
   for (cl_uint k = 0; k < components; k++) {
-    check(clEnqueueReadBuffer(host.queue, host.buffer[first + k], CL_TRUE, 0, length * sizeof *cells, cells, 0, NULL, NULL),
+    check(clEnqueueReadBuffer(host.queue, host.buffer[first + k], CL_TRUE, 0,
+                              length * sizeof *cells, cells, 0, NULL, NULL),
           "clEnqueueReadBuffer");
     for (size_t cell = 0; cell < length; cell++) found[cell * components + k] = cells[cell];
   }
@@ -392,6 +533,7 @@ int main(int count, char **words) {
   free(launch);
   free(program_text);
   free(text);
+  free(steps);
   free(expected_line);
   return equal ? 0 : 1;
 }

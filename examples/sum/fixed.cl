@@ -11,7 +11,7 @@ __kernel __attribute__((reqd_work_group_size(16, 1, 1))) void lift(__global cons
   if ((uint)get_group_id(0) < 1u) {
     v0 = 0u;
     for (uint i0 = 0u; i0 < s0; i0 += 1u) {
-      v1 = a0[(((uint)get_group_id(0) * (16u * s0)) + ((i0 * 16u) + (uint)get_local_id(0)))];
+      v1 = a0[((i0 * 16u) + (uint)get_local_id(0))];
       v0 = (v0 + v1);
     }
     l0[(uint)get_local_id(0)] = v0;
@@ -31,7 +31,7 @@ __kernel __attribute__((reqd_work_group_size(16, 1, 1))) void lift(__global cons
         v5 = l1[i0];
         v4 = (v4 + v5);
       }
-      o0[((uint)get_group_id(0) * s1)] = v4;
+      o0[0u] = v4;
     }
   }
 }

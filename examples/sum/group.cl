@@ -12,7 +12,7 @@ __kernel void lift(__global const uint *a0, __global const uint *a1, __global ui
     for (uint i1 = (uint)get_local_id(0); i1 < 16u; i1 += (uint)get_local_size(0)) {
       v0 = 0u;
       for (uint i2 = 0u; i2 < s0; i2 += 1u) {
-        v1 = a0[((i0 * (16u * s0)) + ((i2 * 16u) + i1))];
+        v1 = a0[((i2 * 16u) + i1)];
         v0 = (v0 + v1);
       }
       l0[i1] = v0;
@@ -33,7 +33,7 @@ __kernel void lift(__global const uint *a0, __global const uint *a1, __global ui
         v5 = l1[i2];
         v4 = (v4 + v5);
       }
-      o0[((i0 * s1) + i1)] = v4;
+      o0[i1] = v4;
     }
   }
 }

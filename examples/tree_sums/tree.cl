@@ -52,7 +52,7 @@ __kernel __attribute__((reqd_work_group_size(16, 1, 1))) void lift(__global cons
     if ((uint)get_local_id(0) < 1u) {
       v8 = 0u;
       for (uint i1 = 0u; i1 < 2u; i1 += 1u) {
-        v9 = l3[(((uint)get_local_id(0) * 2u) + i1)];
+        v9 = l3[i1];
         v8 = (v8 + v9);
       }
       o0[i0] = v8;

@@ -4,5 +4,6 @@ pub mod Fewest
 pub mod Determined
 pub mod Listing
 pub mod Clashes
+pub mod Aligned
 pub mod Parts
 pub mod Steps

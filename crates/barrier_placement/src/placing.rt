@@ -1,6 +1,6 @@
 //! The needed barriers of a body.
 
-ghost use Rattle.std.specs.Prelude.{◌+◌, ◌<◌, ◌≤◌, ◌^◌, IfSome, IfOk, All};
+ghost use Rattle.std.specs.Prelude.{◌≡◌, ◌+◌, ◌<◌, ◌≤◌, ◌^◌, true, IfSome, IfOk, All};
 ghost use Rattle.barrier_placement.specs.Fencing.{fence, InOrder};
 ghost use Rattle.barrier_placement.specs.Needed.{Needed, NeededBy};
 ghost use Rattle.barrier_placement.specs.Code.{stretch, Parts, Closes, Finds, FindsLast};
@@ -106,6 +106,18 @@ fn last_barrier(
     }
 }
 
+// Whether all uses are aligned, so that no two clash.
+fn are_aligned(touches: &[Touch]) -> bool
+    ensures { result ≡ true → All (λ touch. touch.aligned ≡ true) touches.now }
+{
+    for touch in touches {
+        if !touch.aligned {
+            return false;
+        }
+    }
+    true
+}
+
 /// The needed barriers of a body with so many phases, which has these uses of arrays. `once` says
 /// that an item goes through it once at most; else it takes any number of turns.
 ///
@@ -129,6 +141,9 @@ pub fn place(
         barriers.items) }
 {
     let mut barriers = Vec::new(alloc);
+    if are_aligned(touches) {
+        return Ok(barriers);
+    }
     let mut first = phases;
     let mut last = 0;
     for phase in 1..phases {

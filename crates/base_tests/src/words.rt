@@ -50,6 +50,12 @@ fn is_request(request: &Request, name: &str, files: &[&str]) -> bool {
             launch,
             trace: _,
         } => name == "run" && are_three(program, script, launch, files),
+        Request::Cost {
+            program,
+            script,
+            launch,
+            items: _,
+        } => name == "cost" && are_three(program, script, launch, files),
         Request::RunStages {
             program,
             script,
@@ -66,6 +72,13 @@ fn is_traced(request: &Request) -> bool {
     }
 }
 
+fn is_by_items(request: &Request) -> bool {
+    match request {
+        Request::Cost { items, .. } => *items,
+        _ => false,
+    }
+}
+
 fn asks(rt: &HostRuntime, words: &[&str], name: &str, files: &[&str]) -> bool {
     match read(rt.alloc(), words) {
         Ok(request) => is_request(&request, name, files),
@@ -77,6 +90,14 @@ fn asks(rt: &HostRuntime, words: &[&str], name: &str, files: &[&str]) -> bool {
 fn runs(rt: &HostRuntime, words: &[&str], files: &[&str], traced: bool) -> bool {
     match read(rt.alloc(), words) {
         Ok(request) => is_request(&request, "run", files) && is_traced(&request) == traced,
+        Err(_) => false,
+    }
+}
+
+// The words ask for the cost of a run of these files, item by item or of all together.
+fn costs(rt: &HostRuntime, words: &[&str], files: &[&str], by_items: bool) -> bool {
+    match read(rt.alloc(), words) {
+        Ok(request) => is_request(&request, "cost", files) && is_by_items(&request) == by_items,
         Err(_) => false,
     }
 }
@@ -148,6 +169,29 @@ fn reads_the_commands_of_kernels_in_order(rt: HostRuntime) {
     // Neither has a flag.
     assert!(rt; is_refused(&rt, ["stages", "p", "s", "--trace"].as_slice()));
     assert!(rt; is_refused(&rt, ["run-stages", "p", "s", "l", "--trace"].as_slice()));
+}
+
+#[test]
+fn reads_the_words_of_a_cost(rt: HostRuntime) {
+    let files = ["dot.lift", "tiles.script", "one.json"].as_slice();
+    let words = ["cost", "dot.lift", "tiles.script", "one.json"].as_slice();
+    let with_items = ["cost", "dot.lift", "tiles.script", "one.json", "--items"].as_slice();
+    let items_first = ["cost", "--items", "dot.lift", "tiles.script", "one.json"].as_slice();
+    assert!(rt; costs(&rt, words, files, false));
+    assert!(rt; costs(&rt, with_items, files, true));
+    assert!(rt; costs(&rt, items_first, files, true));
+
+    // It wants all three files, once the flag that it has, and none of a run.
+    assert!(rt; is_refused(&rt, ["cost", "p", "s"].as_slice()));
+    assert!(rt; is_refused(&rt, ["cost", "p", "s", "l", "x"].as_slice()));
+    assert!(rt;
+        is_refused(
+            &rt,
+            ["cost", "p", "s", "l", "--items", "--items"].as_slice()
+        )
+    );
+    assert!(rt; is_refused(&rt, ["cost", "p", "s", "l", "--trace"].as_slice()));
+    assert!(rt; is_refused(&rt, ["run", "p", "s", "l", "--items"].as_slice()));
 }
 
 #[test]

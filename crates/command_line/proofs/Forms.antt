@@ -12,7 +12,7 @@ use Rattle.clap.proofs.FaultLemmas.{stopped_fault}
 use Rattle.clap.proofs.WalkLemmas.{walk_stopped}
 use Rattle.clap.proofs.OnLiterals.{clap_on_literals}
 use Rattle.command_line.specs.App.{lift_command}
-use Rattle.command_line.specs.Requests.{Asks, CommandLine, compile, run, eval, steps, stages, run_stages, demo, line_at, line_entered, line_in, IsTaken, name_of, arguments_of, flags_of, words_of, is_plain, is_plain_word}
+use Rattle.command_line.specs.Requests.{Asks, CommandLine, compile, run, cost, eval, steps, stages, run_stages, demo, line_at, line_entered, line_in, IsTaken, name_of, arguments_of, flags_of, words_of, is_plain, is_plain_word}
 use Rattle.command_line.proofs.Plain.{Takes, end_after, end_fault, level-clean, rows-plain, stands_after}
 use Rattle.command_line.proofs.Seeds.{decimals_are_plain, seed_of-decimal}
 
@@ -38,6 +38,8 @@ unfolding lift_built clap_on_literals
 forms (compile p s) e = record { shape = _; met = refl; turn = refl; found = refl; takes = (refl, refl, (refl, refl, tt)); flagged = refl; ends = refl; says = refl }
 forms (run p s l false) e = record { shape = _; met = refl; turn = refl; found = refl; takes = (refl, refl, (refl, refl, (refl, refl, tt))); flagged = refl; ends = refl; says = refl }
 forms (run p s l true) e = record { shape = _; met = refl; turn = refl; found = refl; takes = (refl, refl, (refl, refl, (refl, refl, tt))); flagged = refl; ends = refl; says = refl }
+forms (cost p s l false) e = record { shape = _; met = refl; turn = refl; found = refl; takes = (refl, refl, (refl, refl, (refl, refl, tt))); flagged = refl; ends = refl; says = refl }
+forms (cost p s l true) e = record { shape = _; met = refl; turn = refl; found = refl; takes = (refl, refl, (refl, refl, (refl, refl, tt))); flagged = refl; ends = refl; says = refl }
 forms (eval p l) e = record { shape = _; met = refl; turn = refl; found = refl; takes = (refl, refl, (refl, refl, tt)); flagged = refl; ends = refl; says = refl }
 forms (steps p s) e = record { shape = _; met = refl; turn = refl; found = refl; takes = (refl, refl, (refl, refl, tt)); flagged = refl; ends = refl; says = refl }
 forms (stages p s) e = record { shape = _; met = refl; turn = refl; found = refl; takes = (refl, refl, (refl, refl, tt)); flagged = refl; ends = refl; says = refl }
@@ -48,6 +50,7 @@ forms (demo x) e = record { shape = _; met = refl; turn = refl; found = refl; ta
 plain-words : (line : CommandLine) → is_plain line ≡ true → list_all is_plain_word (arguments_of line) ≡ true
 plain-words (compile p s) e = e
 plain-words (run p s l traced) e = e
+plain-words (cost p s l by_items) e = e
 plain-words (eval p l) e = e
 plain-words (steps p s) e = e
 plain-words (stages p s) e = e

@@ -1,5 +1,5 @@
 -- The command of `lift`, as clap sees it: one level of subcommands, whose arguments are file names
--- or a seed, and a flag of one of them.
+-- or a seed, and a flag of two of them.
 use Rattle.std.specs.Prelude.{Some, true, codes, List, [], ◌∷◌, fold}
 use Rattle.clap.specs.Words.{App, Rule, Shape, Text, new_app, new_rule, with_rule, with_subcommand}
 use Rattle.clap.specs.declared.builder.ArgAction.TheVariants.{Set, SetTrue}
@@ -40,6 +40,18 @@ trace_rule = record (new_rule trace) { long = Some trace; action = Some SetTrue 
 abbrev pub run_command : App
 run_command = with_rule (words_command (codes "run") (program ∷ script ∷ launch ∷ [])) trace_rule
 
+-- the name of the flag that asks for each item's cost
+abbrev pub items : Text
+items = codes "items"
+
+-- the flag `--items`, which may be left out
+abbrev pub items_rule : Rule
+items_rule = record (new_rule items) { long = Some items; action = Some SetTrue }
+
+-- a cost takes three files and the flag
+abbrev pub cost_command : App
+cost_command = with_rule (words_command (codes "cost") (program ∷ script ∷ launch ∷ [])) items_rule
+
 -- a subcommand is required; there is no help and no version, and the words have no program name
 abbrev pub bare_shape : Shape → Shape
 bare_shape s = record s {
@@ -63,6 +75,7 @@ abbrev pub kernel_commands : App
 kernel_commands = with_subcommands bare_command
     (words_command (codes "compile") (program ∷ script ∷ [])
     ∷ run_command
+    ∷ cost_command
     ∷ words_command (codes "eval") (program ∷ launch ∷ []) ∷ [])
 
 -- the whole command: also a script's steps, kernels in order, and demos

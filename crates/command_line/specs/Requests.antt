@@ -5,14 +5,16 @@ use Rattle.std.specs.Str.{bytes_eq}
 use Rattle.std.specs.Str.Parse.{digits_value}
 use Rattle.std.specs.Option.{option_map_or}
 use Rattle.clap.specs.Words.{Row, Text, first_of, one_of, subcommand_of, fault_of}
-use Rattle.command_line.specs.App.{lift_command, program, script, launch, seed, trace}
+use Rattle.command_line.specs.App.{lift_command, program, script, launch, seed, trace, items}
 use Rattle.command_line.specs.declared.request.Request.{Request}
-use Rattle.command_line.specs.declared.request.Request.TheVariants.{Compile, Run, Eval, Steps, Stages, RunStages, Demo}
+use Rattle.command_line.specs.declared.request.Request.TheVariants.{Compile, Run, Cost, Eval, Steps, Stages, RunStages, Demo}
 
--- a request, with its file names as bytes, or its seed; a run is told with its events or without
+-- a request, with its file names as bytes, or its seed; a run is told with its events or without, a
+-- cost item by item or in all alone
 pub data CommandLine : Type 0 where
   compile : Text → Text → CommandLine
   run : Text → Text → Text → (traced : Bool) → CommandLine
+  cost : Text → Text → Text → (by_items : Bool) → CommandLine
   eval : Text → Text → CommandLine
   steps : Text → Text → CommandLine
   stages : Text → Text → CommandLine
@@ -23,6 +25,7 @@ pub data CommandLine : Type 0 where
 abbrev pub line_of : Request → CommandLine
 line_of (Compile p s) = compile (string_bytes p) (string_bytes s)
 line_of (Run p s l traced) = run (string_bytes p) (string_bytes s) (string_bytes l) traced
+line_of (Cost p s l by_items) = cost (string_bytes p) (string_bytes s) (string_bytes l) by_items
 line_of (Eval p l) = eval (string_bytes p) (string_bytes l)
 line_of (Steps p s) = steps (string_bytes p) (string_bytes s)
 line_of (Stages p s) = stages (string_bytes p) (string_bytes s)
@@ -35,6 +38,7 @@ line_of (Demo x) = demo x
 abbrev pub name_of : CommandLine → Text
 name_of (compile p s) = codes "compile"
 name_of (run p s l traced) = codes "run"
+name_of (cost p s l by_items) = codes "cost"
 name_of (eval p l) = codes "eval"
 name_of (steps p s) = codes "steps"
 name_of (stages p s) = codes "stages"
@@ -45,16 +49,19 @@ name_of (demo x) = codes "demo"
 abbrev pub arguments_of : CommandLine → List Text
 arguments_of (compile p s) = p ∷ s ∷ []
 arguments_of (run p s l traced) = p ∷ s ∷ l ∷ []
+arguments_of (cost p s l by_items) = p ∷ s ∷ l ∷ []
 arguments_of (eval p l) = p ∷ l ∷ []
 arguments_of (steps p s) = p ∷ s ∷ []
 arguments_of (stages p s) = p ∷ s ∷ []
 arguments_of (run_stages p s l) = p ∷ s ∷ l ∷ []
 arguments_of (demo x) = decimal x ∷ []
 
--- `--trace` for a run that is told with its events; no other request has a flag
+-- `--trace` for a run that is told with its events, `--items` for a cost item by item; no other
+-- request has a flag
 abbrev pub flags_of : CommandLine → List Text
 flags_of (compile p s) = []
 flags_of (run p s l traced) = if traced then codes "--trace" ∷ [] else []
+flags_of (cost p s l by_items) = if by_items then codes "--items" ∷ [] else []
 flags_of (eval p l) = []
 flags_of (steps p s) = []
 flags_of (stages p s) = []
@@ -105,6 +112,10 @@ line_at name rows =
     (run (value_of program rows) (value_of script rows) (value_of launch rows)
     (is_set trace rows))
     else
+    (if bytes_eq name (codes "cost") then Some
+    (cost (value_of program rows) (value_of script rows) (value_of launch rows)
+    (is_set items rows))
+    else
     (if bytes_eq name (codes "eval") then Some
     (eval (value_of program rows) (value_of launch rows))
     else
@@ -117,7 +128,7 @@ line_at name rows =
     (if bytes_eq name (codes "run-stages") then Some
     (run_stages (value_of program rows) (value_of script rows) (value_of launch rows))
     else (if bytes_eq name (codes "demo") then option_map demo (seed_of (value_of seed rows))
-    else None))))))
+    else None)))))))
 
 -- the request of the subcommand that clap entered, if it entered one
 abbrev pub line_entered : Option (Text × List Row) → Option CommandLine

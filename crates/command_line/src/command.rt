@@ -52,6 +52,19 @@ fn run_command<'a>(alloc: Global) -> Result<Command<'a>, AllocError>
     )
 }
 
+// The cost of three files, which is told item by item where the flag is set.
+fn cost_command<'a>(alloc: Global) -> Result<Command<'a>, AllocError>
+    ensures app { IfOk result (λ c. app_of c ≡ spec.cost_command) }
+    ensures local { IfOk result (λ c. (out-Command c).has_globals ≡ false) }
+{
+    let command = words_command(alloc, "cost", ["program", "script", "launch"].as_slice())?;
+    command.arg(
+        Arg::new(alloc, "items")
+            .long("items")
+            .action(ArgAction::SetTrue),
+    )
+}
+
 // The command with one more subcommand.
 fn with_subcommand<'a>(command: Command<'a>, inner: Command<'a>) -> Result<Command<'a>, AllocError>
     requires outer { (out-Command command).has_globals ≡ false }
@@ -101,6 +114,16 @@ fn with_run<'a>(alloc: Global, command: Command<'a>) -> Result<Command<'a>, Allo
     with_subcommand(command, run_command(alloc)?)
 }
 
+// The command with the subcommand of a cost.
+fn with_cost<'a>(alloc: Global, command: Command<'a>) -> Result<Command<'a>, AllocError>
+    requires { (out-Command command).has_globals ≡ false }
+    ensures app { IfOk result (λ c. app_of c
+        ≡ with_subcommand (app_of command.entry) spec.cost_command.top) }
+    ensures local { IfOk result (λ c. (out-Command c).has_globals ≡ false) }
+{
+    with_subcommand(command, cost_command(alloc)?)
+}
+
 // The command with its first subcommands: those for one kernel, and that for a program's value.
 fn kernel_commands<'a>(alloc: Global) -> Result<Command<'a>, AllocError>
     ensures app { IfOk result (λ c. app_of c ≡ spec.kernel_commands) }
@@ -109,10 +132,12 @@ fn kernel_commands<'a>(alloc: Global) -> Result<Command<'a>, AllocError>
     let sources = ["program", "script"].as_slice();
     let command = with_words(alloc, bare_command(alloc), "compile", sources)?;
     let command = with_run(alloc, command)?;
+    let command = with_cost(alloc, command)?;
     with_words(alloc, command, "eval", ["program", "launch"].as_slice())
 }
 
-/// The command of `lift`: one level of subcommands, each with its words, and the flag of a run.
+/// The command of `lift`: one level of subcommands, each with its words, and the flags of a run
+/// and of a cost.
 pub fn lift_command<'a>(alloc: Global) -> Result<Command<'a>, AllocError>
     ensures { IfOk result (λ c. app_of c ≡ spec.lift_command) }
 {

@@ -6,8 +6,14 @@
 mod command;
 mod request;
 
-ghost use Rattle.std.specs.Prelude.{◌≡◌, IfOk, Some, map, string_bytes, true};
-ghost use Rattle.clap.specs.Words.{subcommand_of, subcommand_rows_of};
+ghost use Rattle.std.specs.Prelude.{◌≡◌, [], IfOk, Some, map, string_bytes, true};
+ghost use Rattle.clap.specs.Words.{
+  app_of,
+  fault_of,
+  is_simple_and_free,
+  subcommand_of,
+  subcommand_rows_of,
+};
 ghost use Rattle.command_line.specs.App.{lift_command};
 ghost use Rattle.command_line.specs.Requests.{
   Asks,
@@ -20,9 +26,22 @@ ghost use Rattle.command_line.specs.Requests.{
   words_of,
 };
 
-use clap::ArgMatches;
+use clap::{ArgMatches, Command};
 pub use request::{Request, WordsNo};
 use std::alloc::Global;
+
+// A command's matches of the words.
+fn matched_by<'w>(command: Command<'w>, words: &'w [String]) -> Result<ArgMatches<'w>, WordsNo>
+    requires simple { is_simple_and_free (app_of command) ≡ true }
+    ensures taken { IfOk result
+        (λ _. fault_of (app_of command.entry) (map string_bytes words.now) ≡ []) }
+    ensures rows { IfOk result (λ matches. subcommand_rows_of matches
+        ≡ subcommand_of (app_of command.entry) (map string_bytes words.now)) }
+    ensures refused { result ≡ Err WordsNo.Refused
+        → fault_of (app_of command.entry) (map string_bytes words.now) ≡ [] → ⊥ }
+{
+    Ok(command.try_get_matches_from(words)?)
+}
 
 // Clap's matches of the words.
 fn matched<'w>(alloc: Global, words: &'w [String]) -> Result<ArgMatches<'w>, WordsNo>
@@ -31,7 +50,7 @@ fn matched<'w>(alloc: Global, words: &'w [String]) -> Result<ArgMatches<'w>, Wor
         ≡ subcommand_of lift_command (map string_bytes words.now)) }
     ensures refused { result ≡ Err WordsNo.Refused → IsTaken (map string_bytes words.now) → ⊥ }
 {
-    Ok(command::lift_command(alloc)?.try_get_matches_from(words)?)
+    matched_by(command::lift_command(alloc)?, words)
 }
 
 // The request that the matches name.

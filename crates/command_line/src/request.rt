@@ -29,6 +29,14 @@ pub enum Request {
         launch: String,
         trace: bool,
     },
+    /// `lift cost PROGRAM SCRIPT LAUNCH [--items]`: write what that kernel loads and stores and how
+    /// often its groups are released, item by item where that is asked for.
+    Cost {
+        program: String,
+        script: String,
+        launch: String,
+        items: bool,
+    },
     /// `lift eval PROGRAM LAUNCH`: write the program's source value at the launch file's sizes and
     /// inputs.
     Eval {
@@ -166,6 +174,23 @@ fn run_request(alloc: Global, matches: &ArgMatches<'_>) -> Result<Option<Request
     }))
 }
 
+// The cost of a kernel, item by item where the flag is set.
+fn cost_request(alloc: Global, matches: &ArgMatches<'_>) -> Result<Option<Request>, AllocError>
+    ensures { let rows = rows_of (found_of matches.now) in
+        IfOk result (λ request. option_map line_of request
+        ≡ Some (line.cost (value_of app.program rows) (value_of app.script rows)
+        (value_of app.launch rows) (is_set app.items rows))) }
+{
+    let (program, script) = sources(alloc, matches)?;
+    let launch = file_name(alloc, matches, "launch")?;
+    Ok(Some(Request::Cost {
+        program,
+        script,
+        launch,
+        items: is_set(matches, "items"),
+    }))
+}
+
 // The value of a program.
 fn eval_request(alloc: Global, matches: &ArgMatches<'_>) -> Result<Option<Request>, AllocError>
     ensures { let rows = rows_of (found_of matches.now) in
@@ -240,6 +265,7 @@ fn named_request(
     match name {
         "compile" => compile_request(alloc, matches),
         "run" => run_request(alloc, matches),
+        "cost" => cost_request(alloc, matches),
         "eval" => eval_request(alloc, matches),
         "steps" => steps_request(alloc, matches),
         "stages" => stages_request(alloc, matches),

@@ -4,3 +4,4 @@ pub mod Emitting
 pub mod InTurn
 pub mod Legality
 pub mod Once
+pub mod Placing

@@ -3,3 +3,4 @@ pub mod Laws
 pub mod Legal
 pub mod Meets
 pub mod Sequence
+pub mod Placed

@@ -20,6 +20,7 @@ ghost use Rattle.compilation.specs.Legal.{
   lowered_state,
 };
 ghost use Rattle.compilation.specs.Meets.{CanBeLaidOut};
+ghost use Rattle.compilation.specs.Placed.{AreOfLast, ArePlaced};
 
 use address_spaces::spaces;
 use buffer_allocation::allocation::buffers;
@@ -73,6 +74,29 @@ fn kernel_of_spaced(alloc: Global, spaced: &Spaced, buffers: &Buffers) -> Result
     Ok(kernel)
 }
 
+/// A legal term within the limits, with the address spaces of its computing nodes and the arrays
+/// that its copies fill: what its kernel is planned from.
+#[derive(Drop)]
+pub struct Placed {
+    pub spaced: Spaced,
+    pub buffers: Buffers,
+}
+
+// The lowered term placed. `Nest` and `Alloc` come in this order, for the first rule or limit.
+fn place(alloc: Global, lowered: Lowered, local: Option<LocalSize>) -> Result<Placed, Refusal>
+    ensures placed { IfOk result (ArePlaced lowered (size_fixed local)) }
+    ensures compiles { IfOk result (λ _. CompilesTerm (size_fixed local) (lowered_state lowered)
+        (Ok (lowered_state lowered))) }
+    ensures refused { IfErr result
+        (StopsFor (CompilesTerm (size_fixed local) (lowered_state lowered))) }
+{
+    legal_without_fault();
+    let mapped = judge(alloc, lowered, local)?;
+    let spaced = spaces(alloc, mapped)?;
+    let buffers = buffers(alloc, &spaced)?;
+    Ok(Placed { spaced, buffers })
+}
+
 /// The kernel of a lowered term, printed for it at each admissible launch, which has groups of the
 /// local size that is fixed, where one is. `Nest` and `Alloc` come in this order, for the first
 /// rule or limit.
@@ -91,12 +115,25 @@ pub fn kernel_of_lowered(
         (StopsFor (CompilesTerm (size_fixed local) (lowered_state lowered))) }
 {
     legal_terms_can_be_lowered();
-    legal_without_fault();
-    let mapped = judge(alloc, lowered, local)?;
-    let spaced = spaces(alloc, mapped)?;
-    let buffers = buffers(alloc, &spaced)?;
-    let kernel = kernel_of_spaced(alloc, &spaced, &buffers)?;
+    let term = place(alloc, lowered, local)?;
+    let kernel = kernel_of_spaced(alloc, &term.spaced, &term.buffers)?;
     Ok(kernel)
+}
+
+/// A last term, placed as a lowered one.
+pub fn placed_last(alloc: Global, last: &Typed, local: Option<LocalSize>) -> Result<Placed, Refusal>
+    requires typed { IsTypedLast last.now }
+    ensures placed { IfOk result
+        (AreOfLast (declared_by (program_of last.now.program)) (size_fixed local) (state_of last.now)) }
+    ensures accepted { IfOk result (λ _. IsAccepted (program_of last.now.program)
+        (tree_of last.now.term) (annotation_of last.now.types)) }
+    ensures compiles { IfOk result (λ _. CompilesTerm (size_fixed local) (state_of last.now)
+        (Ok (state_of last.now))) }
+    ensures refused { IfErr result
+        (StopsFor (CompilesTerm (size_fixed local) (state_of last.now))) }
+{
+    let lowered = lowered_last(alloc, last)?;
+    place(alloc, lowered, local)
 }
 
 /// The kernel of a last term, printed for it at each admissible launch, as that of a lowered one.

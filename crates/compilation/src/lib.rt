@@ -6,7 +6,10 @@
 mod compile;
 mod kernel;
 pub mod laws;
+mod place;
 mod sequence;
 
 pub use compile::{Compiled, compile_text};
+pub use kernel::Placed;
+pub use place::{PlacedText, place_text};
 pub use sequence::{CompiledSequence, KernelOutline, compile_sequence};

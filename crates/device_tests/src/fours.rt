@@ -248,3 +248,32 @@ fn an_access_of_four_names_its_first_cell(rt: HostRuntime) {
         assert!(rt; sight.access == *access && sight.fault.is_none());
     }
 }
+
+// Three variables of four.
+const THREE_VARIABLES: Run = Run {
+    text: "__kernel void lift(__global uint *o0)
+{
+  uint4 w0;
+  uint4 w1;
+  uint4 w2;
+  w0 = (uint4)(1u);
+  w1 = (uint4)(2u);
+  w2 = (uint4)(4u);
+  w1 = (w0 + w1);
+  vstore4(w0, 0u, o0);
+  vstore4(w1, 1u, o0);
+  vstore4(w2, 2u, o0);
+}
+",
+    global: (1, 1),
+    local: (1, 1),
+    input: &[],
+    sizes: &[],
+    output: 12,
+};
+
+#[test]
+fn each_variable_of_four_is_its_own(rt: HostRuntime) {
+    let left = [1, 1, 1, 1, 3, 3, 3, 3, 4, 4, 4, 4];
+    assert!(rt; leaves(rt.alloc(), &THREE_VARIABLES, &left, 7, 0));
+}

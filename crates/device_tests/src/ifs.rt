@@ -166,3 +166,68 @@ const TILES: Run = Run {
 fn items_that_pass_do_less(rt: HostRuntime) {
     assert!(rt; leaves(rt.alloc(), &TILES, &[2, 3, 4, 5], 44, 0));
 }
+
+// Arrays of different lengths: of the first item of a group, of each group, and of each item.
+const OWN_CELLS: Run = Run {
+    text: "__kernel void lift(__global uint *o0)
+{
+  __local uint l0[1];
+  __local uint l1[2];
+  uint p0[1];
+  uint p1[2];
+  uint v0;
+  if ((uint)get_local_id(0) < 1u) {
+    l0[0u] = ((uint)get_global_id(0) + 20u);
+  }
+  l1[(uint)get_local_id(0)] = ((uint)get_global_id(0) + 30u);
+  p0[0u] = ((uint)get_global_id(0) + 40u);
+  p1[1u] = ((uint)get_global_id(0) + 50u);
+  v0 = l1[(uint)get_local_id(0)];
+  o0[(uint)get_global_id(0)] = v0;
+  v0 = p0[0u];
+  o0[((uint)get_global_id(0) + 4u)] = v0;
+  v0 = p1[1u];
+  o0[((uint)get_global_id(0) + 8u)] = v0;
+  v0 = p1[0u];
+  o0[((uint)get_global_id(0) + 12u)] = v0;
+  if ((uint)get_local_id(0) < 1u) {
+    v0 = l0[0u];
+    o0[((uint)get_group_id(0) + 16u)] = v0;
+  }
+}
+",
+    global: (4, 1),
+    local: (2, 1),
+    input: &[],
+    sizes: &[],
+    output: 18,
+};
+
+// 13 events for each item, and three more for the first of a group. The second array of an item's
+// own has its first cell as it was.
+#[test]
+fn groups_and_items_have_cells_of_their_own(rt: HostRuntime) {
+    let left = [
+        30, 31, 32, 33, 40, 41, 42, 43, 50, 51, 52, 53, 9, 9, 9, 9, 20, 22,
+    ];
+    assert!(rt; leaves(rt.alloc(), &OWN_CELLS, &left, 58, 0));
+}
+
+// The largest group that a first line asks for.
+const LARGEST_GROUP: Run = Run {
+    text: "__kernel __attribute__((reqd_work_group_size(256, 1, 1))) void lift(__global uint *o0)
+{
+  o0[(uint)get_local_id(0)] = (uint)get_local_size(0);
+}
+",
+    global: (256, 1),
+    local: (256, 1),
+    input: &[],
+    sizes: &[],
+    output: 256,
+};
+
+#[test]
+fn a_group_of_256_items_runs(rt: HostRuntime) {
+    assert!(rt; leaves(rt.alloc(), &LARGEST_GROUP, &[256; 256], 256, 0));
+}

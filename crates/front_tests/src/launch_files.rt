@@ -38,6 +38,17 @@ const ALONE: Ask = Ask::Run {
     local: Some(1),
 };
 
+// The cost of one work-item's kernel, and that of a kernel by groups of two.
+const COST_OF_TASK: Ask = Ask::Cost {
+    task: true,
+    local: None,
+};
+
+const COST_OF_PAIRS: Ask = Ask::Cost {
+    task: false,
+    local: Some(2),
+};
+
 const NUMBERS: &str = "size N from 1 to 1000; input xs: [u32; N]; output xs";
 
 const TABLES: &str =
@@ -73,7 +84,7 @@ pub fn line_bytes(alloc: Global, line: &Line<'_>) -> Result<Vec<u8>, AllocError>
     Ok(text)
 }
 
-fn schedule_text(alloc: Global, schedule: &Schedule) -> Result<String, AllocError> {
+pub fn schedule_text(alloc: Global, schedule: &Schedule) -> Result<String, AllocError> {
     match schedule {
         Schedule::Numbers(numbers) => format!(in alloc; "{numbers:?}"),
         Schedule::Seed(seed) => format!(in alloc; "seed {seed}"),
@@ -89,10 +100,10 @@ fn head_text(alloc: Global, file: &LaunchFile) -> Result<String, AllocError> {
     format!(in alloc; "{global}x{rows} {local}x{local_rows} {sizes:?} {bases:?} {schedule} ")
 }
 
-// What a launch file gives, the inputs as result lines.
-pub fn file_bytes(alloc: Global, file: &LaunchFile) -> Result<Vec<u8>, AllocError> {
-    let mut text = Vec::from_slice(alloc, head_text(alloc, file)?.as_str().as_bytes())?;
-    for input in &file.inputs {
+// The head, and behind it the inputs as result lines.
+pub fn with_inputs(alloc: Global, head: &str, inputs: &[Val]) -> Result<Vec<u8>, AllocError> {
+    let mut text = Vec::from_slice(alloc, head.as_bytes())?;
+    for input in inputs {
         text.extend_from_slice(&result_text(alloc, input, None)?)?;
     }
     Ok(text)
@@ -103,7 +114,7 @@ fn answer(alloc: Global, program: &Program, ask: Ask, text: &str) -> Result<Vec<
     requires { HasProperInputs (program_of program.now) }
 {
     match read_launch(alloc, text.as_bytes(), program, ask) {
-        Ok(file) => file_bytes(alloc, &file),
+        Ok(file) => with_inputs(alloc, head_text(alloc, &file)?.as_str(), &file.inputs),
         Err(no) => line_bytes(alloc, &no.line(program)),
     }
 }
@@ -203,6 +214,32 @@ const ANSWERS: &[(Ask, &str, &str)] = &[
         Ask::Eval,
         "{\"global\":-1,\"schedule\":7,\"sizes\":{\"N\":1},\"inputs\":{\"xs\":[7],\"ys\":8}}",
         "1x1 1x1 [1] [1] [] {\"value\":[7]}\n",
+    ),
+    // a cost passes over inputs and schedule, and over nothing else
+    (
+        COST_OF_PAIRS,
+        "{\"global\":4,\"local\":2,\"schedule\":7,\"sizes\":{\"N\":9},\"inputs\":{\"xs\":[1]}}",
+        "4x1 2x1 [9] [9] [] ",
+    ),
+    (
+        COST_OF_TASK,
+        "{\"global\":1,\"local\":1,\"sizes\":{\"N\":9}}",
+        "1x1 1x1 [9] [9] [] ",
+    ),
+    (
+        COST_OF_PAIRS,
+        "{\"global\":4,\"local\":4,\"sizes\":{\"N\":9}}",
+        "lift: launch: global 4, local 4",
+    ),
+    (
+        COST_OF_TASK,
+        "{\"global\":2,\"local\":1,\"sizes\":{\"N\":9}}",
+        "lift: launch: global 2 for one item",
+    ),
+    (
+        COST_OF_TASK,
+        "{\"global\":1,\"local\":1,\"sizes\":{\"N\":0}}",
+        "lift: launch: size N is 0",
     ),
     (
         GROUPS,

@@ -3,9 +3,9 @@
 ghost use Rattle.lift_tree.specs.Limits.{HasProperInputs};
 ghost use Rattle.lift_tree.specs.Programs.{program_of};
 
-use crate::launch_files::{file_bytes, line_bytes, typed};
+use crate::launch_files::{line_bytes, schedule_text, typed, with_inputs};
 use launch_file::file::Ask;
-use launch_file::stages::read_stages;
+use launch_file::stages::{Count, StagesFile, read_stages};
 use lift_tree::program::Program;
 use std::alloc::{AllocError, Global};
 use std::test::Fail;
@@ -36,18 +36,30 @@ const PAIRS: [Ask; 2] = [
     },
 ];
 
-// What each kernel is given, or the line that refuses the text.
+// The work-items of each kernel, and then what all of them share.
+fn head_text(alloc: Global, file: &StagesFile) -> Result<String, AllocError> {
+    let mut text = String::new(alloc);
+    for count in &file.counts {
+        let Count { global, local } = *count;
+        text.push_str(format!(in alloc; "{global} by {local}, ")?.as_str())?;
+    }
+    let sizes = file.shared.sizes.as_slice();
+    let bases = file.shared.bases.as_slice();
+    let schedule = schedule_text(alloc, &file.shared.schedule)?;
+    text.push_str(format!(in alloc; "{sizes:?} {bases:?} {schedule} ")?.as_str())?;
+    Ok(text)
+}
+
+// What the kernels are given, or the line that refuses the text.
 fn answer(alloc: Global, program: &Program, asks: &[Ask], text: &str) -> Result<Vec<u8>, AllocError>
     requires { HasProperInputs (program_of program.now) }
 {
     match read_stages(alloc, text.as_bytes(), program, asks) {
-        Ok(files) => {
-            let mut all = Vec::new(alloc);
-            for file in &files {
-                all.extend_from_slice(&file_bytes(alloc, file)?)?;
-            }
-            Ok(all)
-        }
+        Ok(file) => with_inputs(
+            alloc,
+            head_text(alloc, &file)?.as_str(),
+            &file.shared.inputs,
+        ),
         Err(no) => line_bytes(alloc, &no.line(program)),
     }
 }
@@ -66,18 +78,18 @@ const ANSWERS: &[(&[Ask], &str, &str)] = &[
     (
         &TWO,
         "{\"launches\":[{\"global\":4,\"local\":2},{\"global\":1,\"local\":1}],\"sizes\":{\"N\":2},\"inputs\":{\"xs\":[3,4]}}",
-        "4x1 2x1 [2] [2] [] {\"value\":[3,4]}\n1x1 1x1 [2] [2] [] {\"value\":[3,4]}\n",
+        "4 by 2, 1 by 1, [2] [2] [] {\"value\":[3,4]}\n",
     ),
-    // each kernel begins the schedule anew; `global` and `local` beside `launches` are passed over
+    // `global` and `local` beside `launches` are passed over
     (
         &TWO,
         "{\"global\":\"x\",\"local\":0,\"schedule\":[5,6],\"launches\":[{\"global\":2,\"local\":2},{\"global\":1,\"local\":1}],\"sizes\":{\"N\":1},\"inputs\":{\"xs\":[9]}}",
-        "2x1 2x1 [1] [1] [5, 6] {\"value\":[9]}\n1x1 1x1 [1] [1] [5, 6] {\"value\":[9]}\n",
+        "2 by 2, 1 by 1, [1] [1] [5, 6] {\"value\":[9]}\n",
     ),
     (
         &PAIRS,
         "{\"schedule\":{\"seed\":7},\"launches\":[{\"global\":2,\"local\":2},{\"global\":4,\"local\":2}],\"sizes\":{\"N\":1},\"inputs\":{\"xs\":[9]}}",
-        "2x1 2x1 [1] [1] seed 7 {\"value\":[9]}\n4x1 2x1 [1] [1] seed 7 {\"value\":[9]}\n",
+        "2 by 2, 4 by 2, [1] [1] seed 7 {\"value\":[9]}\n",
     ),
     (&TWO, "7", "lift: launch: not json"),
     // the list isn't there, is of another kind or length, or has a member that is no object

@@ -340,6 +340,98 @@ fn splits_by_sizes(rt: HostRuntime) -> Result<(), Fail> {
     Ok(())
 }
 
+const SMALL: Name = Name {
+    multiple: 1,
+    from: 1,
+    to: 8,
+};
+
+// So many sizes of 1, and one of 2 behind them.
+fn ones_and_two(alloc: Global, ones: u32) -> Result<Sizes, AllocError> {
+    let mut sizes = Sizes::new(alloc);
+    for _ in 0..ones {
+        sizes.push(SMALL, 1)?;
+    }
+    sizes.push(SMALL, 2)?;
+    Ok(sizes)
+}
+
+// The sizes that are 1, the input's length, a stride where the last size, N, is 2, the numbers of
+// the input, and the value.
+const STRIDES: &[(&[&str], &str, &str, &[u32], &[u32])] = &[
+    // by the third of the sizes
+    (
+        &["L", "M"],
+        "2*N",
+        "stride(N, xs)",
+        &[1, 2, 3, 4],
+        &[4, 1, 3, 2, 4],
+    ),
+    // of a length of two parts
+    (
+        &["M"],
+        "2*N + 2*M",
+        "stride(2, xs)",
+        &[1, 2, 3, 4, 5, 6],
+        &[6, 1, 3, 5, 2, 4, 6],
+    ),
+    // by a product, and by one of three factors
+    (
+        &[],
+        "4*N",
+        "stride(2*N, xs)",
+        &[1, 2, 3, 4, 5, 6, 7, 8],
+        &[8, 1, 5, 2, 6, 3, 7, 4, 8],
+    ),
+    (
+        &["M"],
+        "4*N*M",
+        "stride(2*N*M, xs)",
+        &[1, 2, 3, 4, 5, 6, 7, 8],
+        &[8, 1, 5, 2, 6, 3, 7, 4, 8],
+    ),
+];
+
+// The program's text up to the output.
+fn sized(alloc: Global, ones: &[&str], length: &str) -> Result<String, Fail> {
+    let mut text = String::new(alloc);
+    for one in ones {
+        text.push_str("size ")?;
+        text.push_str(*one)?;
+        text.push_str(" from 1 to 8; ")?;
+    }
+    text.push_str("size N from 1 to 8; input xs : [u32; ")?;
+    text.push_str(length)?;
+    text.push_str("]; output ")?;
+    Ok(text)
+}
+
+fn stride_has_value(
+    alloc: Global,
+    declared: &str,
+    stride: &str,
+    sizes: &Sizes,
+    numbers: &[u32],
+    want: &[u32],
+) -> Result<bool, Fail> {
+    let typed = typed(alloc, &[declared, stride])?;
+    let inputs = one_list(alloc, numbers)?;
+    Ok(is_value(&value_of(alloc, &typed, sizes, &inputs)?, want))
+}
+
+#[test]
+fn strides_by_sizes(rt: HostRuntime) -> Result<(), Fail> {
+    for (ones, length, stride, numbers, want) in STRIDES {
+        let declared = sized(rt.alloc(), *ones, *length)?;
+        let sizes = ones_and_two(rt.alloc(), ones.len() as u32)?;
+        assert!(rt;
+            stride_has_value(rt.alloc(), &declared, *stride, &sizes, *numbers, *want)?,
+            "{stride}"
+        );
+    }
+    Ok(())
+}
+
 fn last_number(value: &Val) -> Option<u32> {
     match value {
         Val::List(members) => match members.last()? {

@@ -6,7 +6,7 @@ use Rattle.index_expr.specs.Expression.{Expression, Variable, Literal, Size, Bin
 use Rattle.index_expr.specs.Values.{operate, exact, EachOperation, Divides, WantsWords, IsWord, HasWordArgumentsAt, HasNoZeroDivisorAt}
 use Rattle.index_simplify.specs.PlainRanges.{PlainRanges}
 use Rattle.index_simplify.specs.declared.law.Law.{Law}
-use Rattle.index_simplify.specs.declared.law.Law.TheVariants.{Computed, PlusZero, ZeroPlus, MinusZero, MinusItself, TimesOne, OneTimes, TimesZero, ZeroTimes, OverOne, ModuloOne, WholeSize, ScaledSize, RowOfCell, ColumnOfCell, CellOfParts}
+use Rattle.index_simplify.specs.declared.law.Law.TheVariants.{Computed, PlusZero, ZeroPlus, MinusZero, MinusItself, TimesOne, OneTimes, TimesZero, ZeroTimes, OverOne, ModuloOne, WholeSize, ScaledSize, RowOfCell, ColumnOfCell, CellOfParts, GreatestZero, ZeroGreatest, LeastZero, ZeroLeast}
 use Rattle.index_simplify.specs.declared.law.TheConstants.{LAWS}
 use Rattle.index_simplify.specs.Laws.{first_part, scaled, applies, applied}
 use Rattle.index_simplify.specs.Operations.{first_law, by_law, operation_on, tabled, recut, simple}
@@ -55,6 +55,10 @@ applied_operations P products ScaledSize o a b x y = scaled_operations P product
 applied_operations P products RowOfCell o a b x y = first_operations P (first_part a) (first_operations P a x)
 applied_operations P products ColumnOfCell o a b x y = second_operations P a x
 applied_operations P products CellOfParts o a b x y = first_operations P (first_part a) (first_operations P a x)
+applied_operations P products GreatestZero o a b x y = x
+applied_operations P products ZeroGreatest o a b x y = y
+applied_operations P products LeastZero o a b x y = tt
+applied_operations P products ZeroLeast o a b x y = tt
 
 applied_within : (variables : List ℕ) (law : Law) (o : Operation) (a b : Expression) → AreWithin variables a → AreWithin variables b → AreWithin variables (applied law o a b)
 applied_within variables Computed o a b x y = tt
@@ -73,6 +77,10 @@ applied_within variables ScaledSize o a b x y = scaled_within variables a b y
 applied_within variables RowOfCell o a b x y = first_within variables (first_part a) (first_within variables a x)
 applied_within variables ColumnOfCell o a b x y = second_within variables a x
 applied_within variables CellOfParts o a b x y = first_within variables (first_part a) (first_within variables a x)
+applied_within variables GreatestZero o a b x y = x
+applied_within variables ZeroGreatest o a b x y = y
+applied_within variables LeastZero o a b x y = tt
+applied_within variables ZeroLeast o a b x y = tt
 
 module _ (sizes variables : List ℕ) where
   law_stands : (r : PlainRanges) → AreBelowLengths r sizes variables → AreMultiples r sizes → (law : Law) (o : Operation) (a b : Expression) → AreWithin variables a → AreWithin variables b → applies r law o a b ≡ true → StandsFor sizes variables (Binary o a b) (applied law o a b)

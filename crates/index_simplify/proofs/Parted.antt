@@ -4,7 +4,7 @@ use Rattle.std.proofs.lemmas.Bool.{and_from, and_parts, or_cases}
 use Rattle.std.specs.Prelude.{◌&&◌, ◌||◌, ◌≤ℤ◌, if◌then◌else◌, int_div, int_rem, unwrap_or, option_and_then, option_map}
 use Rattle.std.proofs.lemmas.Int.{ints}
 use Rattle.std.proofs.lemmas.Nat.{div-mul-add, mod-mul-add}
-use Rattle.std.proofs.Math.IntN.{zero-*ℤ}
+use Rattle.std.proofs.Math.IntN.{zero-*ℤ, *ℤ-zero}
 use Rattle.std.proofs.Common.{inl, inr}
 use Rattle.std.proofs.Math.Nat.{div-eq_of_lt, mod-eq_of_lt, mul-add-div_right, mul-add-mod_self_right, div-div-eq-div-mul, div-add-mod, div-le_self, mul_assoc, mul_comm, mod-lt, mod-zero, zero-mul, mul-le-mul_right}
 use Rattle.index_expr.specs.declared.operation.Operation.{Operation}
@@ -16,7 +16,7 @@ use Rattle.index_simplify.specs.Tests.{same}
 use Rattle.index_simplify.specs.Laws.{first_part}
 use Rattle.index_simplify.specs.Factors.{over}
 use Rattle.index_simplify.specs.Below.{is_natural, stays_below}
-use Rattle.index_simplify.specs.Cells.{is_no_higher, is_cell, natural_over, split_row, cell_by, cell_over, sum_over, sum_modulo, rows_around, remainder_over, remainder_modulo, quotient_of, remainder_of, quotient, remainder, part_of, parted_operation, parted}
+use Rattle.index_simplify.specs.Cells.{is_no_higher, is_cell, natural_over, split_row, cell_by, cell_over, sum_over, column_modulo, row_modulo, modulo_by, cell_modulo, sum_modulo, rows_around, remainder_over, remainder_modulo, quotient_of, remainder_of, quotient, remainder, product, part_of, parted_operation, parted}
 use Rattle.index_simplify.specs.Ranges.{AreWithin, IsPoint}
 use Rattle.index_simplify.specs.Simplified.{height, names_are, HasWordLiterals, StandsFor, IsNoLarger}
 use Rattle.index_simplify.proofs.Tests.{IsNatural, count_value, same_value, IsColumn}
@@ -66,6 +66,11 @@ module _ (X W Y K N : ℤ) (x w y k n : ℕ) (X_is : X ≡ pos x) (W_is : W ≡ 
 
   row_from : N ≡ K *ℤ W → y < w → int_div X K ≡ int_div ((X *ℤ W) +ℤ Y) N
   row_from e lt = rw (e, X_is, Y_is, K_is, W_is) (ap pos (row_number x y k w lt))
+
+  around_from : N ≡ K *ℤ W → y < w → (int_rem X K *ℤ W) +ℤ Y ≡ int_rem ((X *ℤ W) +ℤ Y) N
+  around_from e lt =
+      let row : int_rem X K ≡ pos (x % k) = rw (X_is, K_is) refl in
+      ap (λ z. (z *ℤ W) +ℤ Y) row ∙ rw (e, X_is, Y_is, K_is, W_is) (ap pos (sym (around_number x y k w lt)))
 
   around_row_from : (M : ℤ) → M ≡ K *ℤ W → W ≡ N → y < w → int_rem X K ≡ int_div (int_rem ((X *ℤ W) +ℤ Y) M) N
   around_row_from M e f lt = rw (e, sym f, X_is, Y_is, K_is, W_is) (ap pos (around_row x y k w lt))
@@ -283,6 +288,68 @@ module _ (r : PlainRanges) (row width column : Expression) (cell : is_cell r row
     literals = λ h. (h.0.1, h.1);
   }
 
+  -- ---- and (row mod k) * width + column where n is k * width
+  abbrev Around : (k : Expression) → Expression
+  Around k = Binary Sum (Binary Product (Binary Remainder row k) width) column
+
+  around_stands : (k n : Expression) → IsTimes n width k → (sizes variables : List ℕ) → IsPoint r sizes variables (Binary Remainder (Cell row width column) n) → StandsFor sizes variables (Binary Remainder (Cell row width column) n) (Around k)
+  around_stands k n e sizes variables p =
+      let c = cell_at sizes variables (Binary Remainder (Cell row width column) n) p p.own.0.1 in
+      let kn = count_value sizes variables 3 k e.natural in
+      let left = over_value sizes variables n width k e.is_over in
+      let n_is = length_from (exact sizes variables n) (exact sizes variables k) (exact sizes variables width) kn.0 c.within.count left kn.1 c.within.length_is in
+      let lt = c.within.below in
+      stands_by sizes variables (Binary Remainder (Cell row width column) n) (Around k)
+      (around_from (exact sizes variables row) (exact sizes variables width) (exact sizes variables column) (exact sizes variables k) (exact sizes variables n) c.row_at c.within.count c.within.at kn.0 (kn.0 * c.within.count) c.row_is c.within.length_is c.within.column_is kn.1 n_is left lt)
+      (λ h. (
+        λ w. absurd w,
+        (
+          λ w. absurd w,
+          (
+            λ w. (row_word sizes variables c (h.0 tt).0, word_from (exact sizes variables k) kn.0 (kn.0 * c.within.count) kn.1 (subst IsWord n_is (h.0 tt).1) (at_least kn.0 c.within.count (omega arith))),
+            h.1.1.1,
+            times_operations (λ o a b. WantsWords o → IsWord (exact sizes variables a) × IsWord (exact sizes variables b)) (λ a b w. absurd w) n width k e h.2,
+          ),
+          h.1.1.2,
+        ),
+        h.1.2,
+      ))
+      (λ h. (
+        λ w. absurd w,
+        (
+          λ w. absurd w,
+          (
+            λ w none. h.0 tt (left ∙ ap (λ z. z *ℤ exact sizes variables width) none ∙ zero-*ℤ (exact sizes variables width)),
+            h.1.1.1,
+            times_operations (λ o a b. Divides o → exact sizes variables b ≢ pos 0) (λ a b w. absurd w) n width k e h.2,
+          ),
+          h.1.1.2,
+        ),
+        h.1.2,
+      ))
+      (((p.own.0.0.0, times_within variables n width k e p.own.1), p.own.0.0.1), p.own.0.1)
+
+  around_moved : (k n : Expression) → IsTimes n width k → (is_no_higher k row || is_no_higher k width) ≡ true → IsMoved r (Binary Remainder (Cell row width column) n) (Around k)
+  around_moved k n e low =
+      let less = over_less n width k e.is_over in
+      let few = less.nodes in
+      let low_is = under k row width (no_higher k row) (no_higher k width) low in
+      record {
+        stands = around_stands k n e;
+        small = record {
+          nodes = omega arith;
+          height = omega arith;
+          names = λ v s h.
+              let whole = and_parts (names_are v s (Cell row width column)) (names_are v s n) h in
+              let sum = and_parts (names_are v s row && names_are v s width) (names_are v s column) whole.0 in
+              let begin = and_parts (names_are v s row) (names_are v s width) sum.0 in
+              and_from ((names_are v s row && names_are v s k) && names_are v s width) (names_are v s column)
+              (and_from (names_are v s row && names_are v s k) (names_are v s width) (and_from (names_are v s row) (names_are v s k) begin.0 (times_names v s n width k e whole.1)) begin.1)
+              sum.1;
+        };
+        literals = λ h. (((h.0.0.0, times_literals n width k e h.1), h.0.0.1), h.0.1);
+      }
+
   -- ---- ((row * n + column) mod m) / n is row mod k, where m is k * n
   module _ (m n k : Expression) (around : same width n ≡ true) (e : IsTimes m width k) where
     around_row_stands : (sizes variables : List ℕ) → IsPoint r sizes variables (Binary Quotient (Binary Remainder (Cell row width column) m) n) → StandsFor sizes variables (Binary Quotient (Binary Remainder (Cell row width column) m) n) (Binary Remainder row k)
@@ -383,6 +450,33 @@ module _ (r : PlainRanges) (a n : Expression) (below : stays_below r a n ≡ tru
 nothing_added : (A B : ℤ) (b n : ℕ) → B ≡ pos b → pos 1 ≡ pos n → b < n → A ≡ A +ℤ B
 nothing_added A B b n e f lt = let one : 1 ≡ n = cc f in omega (arith, ints)
 
+-- ---- a product with what stays below 1
+nothing_times : (A B : ℤ) (a n : ℕ) → A ≡ pos a → pos 1 ≡ pos n → a < n → pos 0 ≡ A *ℤ B
+nothing_times A B a n e f lt = let one : 1 ≡ n = cc f in let none : a ≡ 0 = omega arith in sym (ap (λ z. z *ℤ B) (e ∙ ap pos none) ∙ zero-*ℤ B)
+
+times_nothing : (A B : ℤ) (b n : ℕ) → B ≡ pos b → pos 1 ≡ pos n → b < n → pos 0 ≡ A *ℤ B
+times_nothing A B b n e f lt = let one : 1 ≡ n = cc f in let none : b ≡ 0 = omega arith in sym (ap (λ z. A *ℤ z) (e ∙ ap pos none) ∙ *ℤ-zero A)
+
+first_nothing : (r : PlainRanges) (a b : Expression) → stays_below r a (Literal 1) ≡ true → IsMoved r (Binary Product a b) (Literal 0)
+first_nothing r a b below = record {
+  stands = λ sizes variables p.
+      let c = below_is sizes variables r p.loops a (Literal 1) p.own.0 below in
+      stands_by sizes variables (Binary Product a b) (Literal 0)
+      (nothing_times (exact sizes variables a) (exact sizes variables b) c.at c.count c.column_is c.length_is c.below) (λ h. tt) (λ h. tt) tt;
+  small = literal_small (Binary Product a b) 0;
+  literals = λ h. omega arith;
+}
+
+second_nothing : (r : PlainRanges) (a b : Expression) → stays_below r b (Literal 1) ≡ true → IsMoved r (Binary Product a b) (Literal 0)
+second_nothing r a b below = record {
+  stands = λ sizes variables p.
+      let c = below_is sizes variables r p.loops b (Literal 1) p.own.1 below in
+      stands_by sizes variables (Binary Product a b) (Literal 0)
+      (times_nothing (exact sizes variables a) (exact sizes variables b) c.at c.count c.column_is c.length_is c.below) (λ h. tt) (λ h. tt) tt;
+  small = literal_small (Binary Product a b) 0;
+  literals = λ h. omega arith;
+}
+
 first_moved : (r : PlainRanges) (a b : Expression) → stays_below r b (Literal 1) ≡ true → IsMoved r (Binary Sum a b) a
 first_moved r a b below = record {
   stands = λ sizes variables p.
@@ -414,13 +508,30 @@ module _ (r : PlainRanges) where
       go false cell = tt
   sum_over_found _ column n = tt
 
+  -- by the column, where the width of rows is so many times the length
+  column_found : (row width column n : Expression) → is_cell r row width column ≡ true → (b : Bool) → is_natural n ≡ b → (part : Option Expression) → natural_over width n ≡ part → IfMoved r (Binary Remainder (Cell row width column) n) (if b then option_map (λ k. Binary Remainder column n) part else None)
+  column_found row width column n cell true h (Some k) e = column_moved r row width column cell k n (times_of width n k e) h
+  column_found row width column n cell true h None e = tt
+  column_found row width column n cell false h part e = tt
+
+  row_found : (rows row width column n : Expression) → is_cell r row width column ≡ true → natural_over n width ≡ Some rows → (b : Bool) → (is_no_higher rows row || is_no_higher rows width) ≡ b → IfMoved r (Binary Remainder (Cell row width column) n) (if b then Some (Binary Sum (Binary Product (Binary Remainder row rows) width) column) else None)
+  row_found rows row width column n cell e true low = around_moved r row width column cell rows n (times_of n width rows e) low
+  row_found rows row width column n cell e false low = tt
+
+  rows_found : (row width column n : Expression) → is_cell r row width column ≡ true → (rows : Option Expression) → natural_over n width ≡ rows → IfMoved r (Binary Remainder (Cell row width column) n) (option_and_then (λ k. row_modulo k row width column) rows)
+  rows_found row width column n cell (Some k) e = row_found k row width column n cell e (is_no_higher k row || is_no_higher k width) refl
+  rows_found row width column n cell None e = tt
+
+  modulo_found : (row width column n : Expression) → is_cell r row width column ≡ true → (by_column : Option Expression) → IfMoved r (Binary Remainder (Cell row width column) n) by_column → IfMoved r (Binary Remainder (Cell row width column) n) (modulo_by by_column row width column n)
+  modulo_found row width column n cell (Some e) h = h
+  modulo_found row width column n cell None h = rows_found row width column n cell (natural_over n width) refl
+
   sum_modulo_found : (begin column n : Expression) → IfMoved r (Binary Remainder (Binary Sum begin column) n) (sum_modulo r begin column n)
-  sum_modulo_found (Binary Product row width) column n = go (is_natural n && is_cell r row width column) refl (natural_over width n) refl
+  sum_modulo_found (Binary Product row width) column n = go (is_cell r row width column) refl
     where
-      go : (b : Bool) → (is_natural n && is_cell r row width column) ≡ b → (part : Option Expression) → natural_over width n ≡ part → IfMoved r (Binary Remainder (Cell row width column) n) (if b then option_map (λ k. Binary Remainder column n) part else None)
-      go true h (Some k) e = let parts = and_parts (is_natural n) (is_cell r row width column) h in column_moved r row width column parts.1 k n (times_of width n k e) parts.0
-      go true h None e = tt
-      go false h part e = tt
+      go : (b : Bool) → is_cell r row width column ≡ b → IfMoved r (Binary Remainder (Cell row width column) n) (if b then cell_modulo row width column n else None)
+      go true h = modulo_found row width column n h (column_modulo width column n) (column_found row width column n h (is_natural n) refl (natural_over width n) refl)
+      go false h = tt
   sum_modulo_found _ column n = tt
 
   remainder_over_found : (cell m n : Expression) → IfMoved r (Binary Quotient (Binary Remainder cell m) n) (remainder_over r cell m n)
@@ -465,8 +576,14 @@ module _ (r : PlainRanges) where
   sum_found a b true h = first_moved r a b h
   sum_found a b false h = tt
 
+  product_found : (a b : Expression) (s t : Bool) → stays_below r a (Literal 1) ≡ s → stays_below r b (Literal 1) ≡ t → IfMoved r (Binary Product a b) (if s || t then Some (Literal 0) else None)
+  product_found a b true t h e = first_nothing r a b h
+  product_found a b false true h e = second_nothing r a b e
+  product_found a b false false h e = tt
+
   part_found : (o : Operation) (a b : Expression) → IfMoved r (Binary o a b) (part_of r o a b)
   part_found Sum a b = sum_found a b (stays_below r b (Literal 1)) refl
+  part_found Product a b = product_found a b (stays_below r a (Literal 1)) (stays_below r b (Literal 1)) refl refl
   part_found Quotient a b = quotient_found a b (stays_below r a b) refl
   part_found Remainder a b = remainder_found a b (stays_below r a b) refl
   part_found _ a b = tt

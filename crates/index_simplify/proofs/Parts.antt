@@ -8,7 +8,7 @@ use Rattle.index_expr.specs.declared.operation.Operation.TheVariants.{Product, Q
 use Rattle.index_expr.specs.Expression.{Expression, Variable, Literal, Size, Binary, nodes}
 use Rattle.index_expr.specs.Values.{EachOperation}
 use Rattle.index_simplify.specs.declared.law.Law.{Law}
-use Rattle.index_simplify.specs.declared.law.Law.TheVariants.{Computed, PlusZero, ZeroPlus, MinusZero, MinusItself, TimesOne, OneTimes, TimesZero, ZeroTimes, OverOne, ModuloOne, WholeSize, ScaledSize, RowOfCell, ColumnOfCell, CellOfParts}
+use Rattle.index_simplify.specs.declared.law.Law.TheVariants.{Computed, PlusZero, ZeroPlus, MinusZero, MinusItself, TimesOne, OneTimes, TimesZero, ZeroTimes, OverOne, ModuloOne, WholeSize, ScaledSize, RowOfCell, ColumnOfCell, CellOfParts, GreatestZero, ZeroGreatest, LeastZero, ZeroLeast}
 use Rattle.index_simplify.specs.Laws.{first_part, second_part, scaled, applies, applied}
 use Rattle.index_simplify.specs.Ranges.{AreWithin}
 use Rattle.index_simplify.specs.PlainRanges.{PlainRanges}
@@ -136,6 +136,10 @@ applied_small ScaledSize o a b = scaled_small o a b
 applied_small RowOfCell o a b = within_small o a b
 applied_small ColumnOfCell o a b = then_small (Binary o a b) a (second_part a) (left_small o a b) (second_small a)
 applied_small CellOfParts o a b = within_small o a b
+applied_small GreatestZero o a b = left_small o a b
+applied_small ZeroGreatest o a b = right_small o a b
+applied_small LeastZero o a b = literal_small (Binary o a b) 0
+applied_small ZeroLeast o a b = literal_small (Binary o a b) 0
 
 pub joined_small : (o : Operation) (a b c d : Expression) → IsNoLarger a c → IsNoLarger b d → IsNoLarger (Binary o a b) (Binary o c d)
 joined_small o a b c d x y = record {
@@ -236,3 +240,7 @@ applied_simple r ScaledSize o a b h x y = scaled_simple r a b (and_parts (same_o
 applied_simple r RowOfCell o a b h x y = first_nodes IsPlain (first_part a) (first_nodes IsPlain a x)
 applied_simple r ColumnOfCell o a b h x y = second_nodes IsPlain a x
 applied_simple r CellOfParts o a b h x y = first_nodes IsPlain (first_part a) (first_nodes IsPlain a x)
+applied_simple r GreatestZero o a b h x y = x
+applied_simple r ZeroGreatest o a b h x y = y
+applied_simple r LeastZero o a b h x y = tt
+applied_simple r ZeroLeast o a b h x y = tt

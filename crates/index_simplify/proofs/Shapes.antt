@@ -83,6 +83,10 @@ module _ (r : PlainRanges) (o : Operation) (a b : Expression) where
   fails_each h law.RowOfCell = h.1.1.1.1.1.1.1.1.1.1.1.1.1.0
   fails_each h law.ColumnOfCell = h.1.1.1.1.1.1.1.1.1.1.1.1.1.1.0
   fails_each h law.CellOfParts = h.1.1.1.1.1.1.1.1.1.1.1.1.1.1.1.0
+  fails_each h law.GreatestZero = h.1.1.1.1.1.1.1.1.1.1.1.1.1.1.1.1.0
+  fails_each h law.ZeroGreatest = h.1.1.1.1.1.1.1.1.1.1.1.1.1.1.1.1.1.0
+  fails_each h law.LeastZero = h.1.1.1.1.1.1.1.1.1.1.1.1.1.1.1.1.1.1.0
+  fails_each h law.ZeroLeast = h.1.1.1.1.1.1.1.1.1.1.1.1.1.1.1.1.1.1.1.0
 
   pub clash : (t : Bool) → t ≡ true → t ≡ false → ⊥
   clash t x y = absurd (cc (x, y))

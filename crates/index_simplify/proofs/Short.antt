@@ -53,6 +53,10 @@ module _ (r : PlainRanges) (c k d : ℕ) where
   few law.RowOfCell = omega arith
   few law.ColumnOfCell = omega arith
   few law.CellOfParts = omega arith
+  few law.GreatestZero = omega arith
+  few law.ZeroGreatest = omega arith
+  few law.LeastZero = omega arith
+  few law.ZeroLeast = omega arith
 
   -- and one, where it is the divisor's number
   one_left : (1 == c) ≡ false → (l : Law) → d ≡ c → applies r l Product (Literal c) Base ≡ true → nodes (applied l Product (Literal c) Base) ≤ 1
@@ -76,6 +80,10 @@ module _ (r : PlainRanges) (c k d : ℕ) where
   one_left more law.RowOfCell same h = omega arith
   one_left more law.ColumnOfCell same h = omega arith
   one_left more law.CellOfParts same h = omega arith
+  one_left more law.GreatestZero same h = absurd (cc h)
+  one_left more law.ZeroGreatest same h = absurd (cc h)
+  one_left more law.LeastZero same h = omega arith
+  one_left more law.ZeroLeast same h = omega arith
 
   -- some law is of it
   whole_law : is_multiple r (Size k) (Literal d) ≡ true → c ≡ d → applies r law.WholeSize Product (Literal c) Base ≡ true

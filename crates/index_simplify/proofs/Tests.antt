@@ -11,7 +11,7 @@ use Rattle.index_expr.specs.declared.operation.Operation.TheVariants.{Sum, Diffe
 use Rattle.index_expr.specs.Expression.{Expression, Variable, Literal, Size, Binary}
 use Rattle.index_expr.specs.Values.{operate, exact}
 use Rattle.index_simplify.specs.PlainRanges.{PlainRanges}
-use Rattle.index_simplify.specs.Tests.{same_operation, same_variable, is_number, same_size, same, is_above, is_at_least, is_no_longer, is_known_within, is_loop_within, is_below, is_count, is_cell, is_quotient, is_rounded, are_parts, is_known_multiple, is_multiple, is_part_of, is_base, is_part_base, is_whole_size, is_scaled_size}
+use Rattle.index_simplify.specs.Tests.{same_operation, same_variable, is_number, same_size, same, is_above, is_at_least, is_no_longer, is_known_within, is_loop_within, is_below, is_count, is_zero_beside, is_cell, is_quotient, is_rounded, are_parts, is_known_multiple, is_multiple, is_part_of, is_base, is_part_base, is_whole_size, is_scaled_size}
 use Rattle.index_simplify.specs.Laws.{first_part, second_part, scaled}
 use Rattle.index_simplify.specs.Ranges.{AreBelowLengths, AreMultiples, AreWithin}
 
@@ -91,6 +91,18 @@ module _ (sizes variables : List ℕ) where
   count_value (suc depth) (Binary Remainder a b) h = let parts = and_parts (is_count depth a) (is_count depth b) h in natural_of Remainder a b refl (count_value depth a parts.0) (count_value depth b parts.1)
   count_value (suc depth) (Binary Least a b) h = let parts = and_parts (is_count depth a) (is_count depth b) h in natural_of Least a b refl (count_value depth a parts.0) (count_value depth b parts.1)
   count_value (suc depth) (Binary Greatest a b) h = let parts = and_parts (is_count depth a) (is_count depth b) h in natural_of Greatest a b refl (count_value depth a parts.0) (count_value depth b parts.1)
+
+  -- 0, and a natural number beside it
+  pub record IsZeroBeside (nothing other : Expression) : Type 0 where
+    pub at : ℕ
+    pub zero_is : exact sizes variables nothing ≡ pos 0
+    pub other_is : exact sizes variables other ≡ pos at
+
+  pub zero_beside : (nothing other : Expression) → is_zero_beside nothing other ≡ true → IsZeroBeside nothing other
+  zero_beside nothing other h =
+      let parts = and_parts (is_number 0 nothing) (is_count 3 other) h in
+      let v = count_value 3 other parts.1 in
+      record { at = v.0; zero_is = sym (number_value 0 nothing parts.0); other_is = v.1 }
 
   -- the values of a column and of a length above it
   pub record IsColumn (column length : Expression) : Type 0 where

@@ -11,12 +11,12 @@ use Rattle.index_expr.specs.Expression.{Expression, Literal}
 use Rattle.index_expr.specs.Values.{operate, exact}
 use Rattle.index_simplify.specs.PlainRanges.{PlainRanges}
 use Rattle.index_simplify.specs.declared.law.Law.{Law}
-use Rattle.index_simplify.specs.declared.law.Law.TheVariants.{Computed, PlusZero, ZeroPlus, MinusZero, MinusItself, TimesOne, OneTimes, TimesZero, ZeroTimes, OverOne, ModuloOne, WholeSize, ScaledSize, RowOfCell, ColumnOfCell, CellOfParts}
+use Rattle.index_simplify.specs.declared.law.Law.TheVariants.{Computed, PlusZero, ZeroPlus, MinusZero, MinusItself, TimesOne, OneTimes, TimesZero, ZeroTimes, OverOne, ModuloOne, WholeSize, ScaledSize, RowOfCell, ColumnOfCell, CellOfParts, GreatestZero, ZeroGreatest, LeastZero, ZeroLeast}
 use Rattle.index_simplify.specs.Literals.{word, difference, computed_from, computed_with, computed}
-use Rattle.index_simplify.specs.Tests.{same_operation, is_number, same, is_cell, are_parts, is_whole_size, is_scaled_size}
+use Rattle.index_simplify.specs.Tests.{same_operation, is_number, same, is_zero_beside, is_cell, are_parts, is_whole_size, is_scaled_size}
 use Rattle.index_simplify.specs.Laws.{first_part, second_part, scaled, applies, applied}
 use Rattle.index_simplify.specs.Ranges.{AreBelowLengths, AreMultiples, AreWithin}
-use Rattle.index_simplify.proofs.Tests.{is_operation, number_value, same_value, row_value, column_value, parts_value, whole_size_value, scaled_size_value}
+use Rattle.index_simplify.proofs.Tests.{is_operation, number_value, same_value, zero_beside, row_value, column_value, parts_value, whole_size_value, scaled_size_value}
 
 -- ---- the laws over the whole numbers
 plus_zero : (z : ℤ) → z ≡ z +ℤ pos 0
@@ -50,6 +50,18 @@ over_one (negsuc n) = ap (λ x. neg_ℤ (pos x)) (sym (div-one (suc n)))
 modulo_one : (z : ℤ) → pos 0 ≡ int_rem z (pos 1)
 modulo_one (pos n) = ap pos (sym (mod-one n))
 modulo_one (negsuc n) = ap (λ x. neg_ℤ (pos x)) (sym (mod-one (suc n)))
+
+greatest_first : (x y : ℤ) (n : ℕ) → x ≡ pos n → y ≡ pos 0 → x ≡ int_max x y
+greatest_first x y n e f = rw (e, f) (omega (arith, ints, clamps))
+
+greatest_second : (x y : ℤ) (n : ℕ) → x ≡ pos 0 → y ≡ pos n → y ≡ int_max x y
+greatest_second x y n e f = rw (e, f) (omega (arith, ints, clamps))
+
+least_first : (x y : ℤ) (n : ℕ) → x ≡ pos 0 → y ≡ pos n → pos 0 ≡ int_min x y
+least_first x y n e f = rw (e, f) (omega (arith, ints, clamps))
+
+least_second : (x y : ℤ) (n : ℕ) → x ≡ pos n → y ≡ pos 0 → pos 0 ≡ int_min x y
+least_second x y n e f = rw (e, f) (omega (arith, ints, clamps))
 
 -- ---- operations on two numbers
 word_is : (n : ℕ) → is_some (word n) ≡ true → unwrap_or (word n) 0 ≡ n
@@ -125,3 +137,7 @@ module _ (sizes variables : List ℕ) where
   law_value r loops all RowOfCell o a b own h = by_test o Quotient (is_cell r a b) a b (first_part (first_part a)) h (row_value sizes variables r loops a b own)
   law_value r loops all ColumnOfCell o a b own h = by_test o Remainder (is_cell r a b) a b (second_part a) h (column_value sizes variables r loops a b own)
   law_value r loops all CellOfParts o a b own h = by_test o Sum (are_parts a b) a b (first_part (first_part a)) h (parts_value sizes variables a b)
+  law_value r loops all GreatestZero o a b own h = by_test o Greatest (is_zero_beside b a) a b a h (λ t. let z = zero_beside sizes variables b a t in greatest_first (exact sizes variables a) (exact sizes variables b) z.at z.other_is z.zero_is)
+  law_value r loops all ZeroGreatest o a b own h = by_test o Greatest (is_zero_beside a b) a b b h (λ t. let z = zero_beside sizes variables a b t in greatest_second (exact sizes variables a) (exact sizes variables b) z.at z.zero_is z.other_is)
+  law_value r loops all LeastZero o a b own h = by_test o Least (is_zero_beside b a) a b (Literal 0) h (λ t. let z = zero_beside sizes variables b a t in least_second (exact sizes variables a) (exact sizes variables b) z.at z.other_is z.zero_is)
+  law_value r loops all ZeroLeast o a b own h = by_test o Least (is_zero_beside a b) a b (Literal 0) h (λ t. let z = zero_beside sizes variables a b t in least_first (exact sizes variables a) (exact sizes variables b) z.at z.zero_is z.other_is)

@@ -83,6 +83,10 @@ applied_words law.ScaledSize o a b x y = scaled_words a b x y
 applied_words law.RowOfCell o a b x y = first_words (first_part a) (first_words a x)
 applied_words law.ColumnOfCell o a b x y = second_words a x
 applied_words law.CellOfParts o a b x y = first_words (first_part a) (first_words a x)
+applied_words law.GreatestZero o a b x y = x
+applied_words law.ZeroGreatest o a b x y = y
+applied_words law.LeastZero o a b x y = omega arith
+applied_words law.ZeroLeast o a b x y = omega arith
 
 by_words : (found : Option Law) (o : Operation) (a b : Expression) → HasWordLiterals a → HasWordLiterals b → HasWordLiterals (by_law found o a b)
 by_words None o a b x y = (x, y)

@@ -48,12 +48,33 @@ sum_over r (Binary Product row width) column n =
     if is_cell r row width column then cell_over row width column n else None
 sum_over r _ column n = None
 
--- (row * width + column) mod n is column mod n
+-- (row * width + column) mod n is column mod n, where width is so many times n
+abbrev pub column_modulo : (width column n : Expression) → Option Expression
+column_modulo width column n =
+    if is_natural n then option_map (λ part. Binary Remainder column n) (natural_over width n)
+    else None
+
+-- and (row mod rows) * width + column, where n is rows times width
+abbrev pub row_modulo : (rows row width column : Expression) → Option Expression
+row_modulo rows row width column =
+    if is_no_higher rows row || is_no_higher rows width
+    then Some (Binary Sum (Binary Product (Binary Remainder row rows) width) column) else None
+
+-- the first of these two
+abbrev pub modulo_by : (by_column : Option Expression) → (row width column n : Expression)
+    → Option Expression
+modulo_by (Some e) row width column n = Some e
+modulo_by None row width column n =
+    option_and_then (λ rows. row_modulo rows row width column) (natural_over n width)
+
+-- (row * width + column) mod n by one of them
+abbrev pub cell_modulo : (row width column n : Expression) → Option Expression
+cell_modulo row width column n = modulo_by (column_modulo width column n) row width column n
+
+-- (begin + column) mod n, where that is the cell of a row and of a column in it
 abbrev pub sum_modulo : PlainRanges → (begin column n : Expression) → Option Expression
 sum_modulo r (Binary Product row width) column n =
-    if is_natural n
-    && is_cell r row width column then option_map (λ part. Binary Remainder column n)
-    (natural_over width n) else None
+    if is_cell r row width column then cell_modulo row width column n else None
 sum_modulo r _ column n = None
 
 -- how many rows a cell's number is counted modulo, where its row is of this length
@@ -98,9 +119,15 @@ remainder r a n = if stays_below r a n then Some a else remainder_of r a n
 abbrev pub sum : PlainRanges → (a b : Expression) → Option Expression
 sum r a b = if stays_below r b (Literal 1) then Some a else None
 
+-- a product with what stays below 1 is 0
+abbrev pub product : PlainRanges → (a b : Expression) → Option Expression
+product r a b =
+    if stays_below r a (Literal 1) || stays_below r b (Literal 1) then Some (Literal 0) else None
+
 -- what one of the laws leaves of an operation
 abbrev pub part_of : PlainRanges → Operation → (a b : Expression) → Option Expression
 part_of r Sum a b = sum r a b
+part_of r Product a b = product r a b
 part_of r Quotient a b = quotient r a b
 part_of r Remainder a b = remainder r a b
 part_of r _ a b = None

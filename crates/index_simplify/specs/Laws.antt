@@ -1,13 +1,13 @@
 -- The table of laws: which operations each is of, and what it leaves of them.
 use Rattle.std.specs.Prelude.{ℕ, ◌&&◌, Bool, is_some, unwrap_or}
 use Rattle.index_expr.specs.declared.operation.Operation.{Operation}
-use Rattle.index_expr.specs.declared.operation.Operation.TheVariants.{Sum, Difference, Product, Quotient, Remainder}
+use Rattle.index_expr.specs.declared.operation.Operation.TheVariants.{Sum, Difference, Product, Quotient, Remainder, Least, Greatest}
 use Rattle.index_expr.specs.Expression.{Expression, Literal, Binary}
 use Rattle.index_simplify.specs.PlainRanges.{PlainRanges}
 use Rattle.index_simplify.specs.declared.law.Law.{Law}
-use Rattle.index_simplify.specs.declared.law.Law.TheVariants.{Computed, PlusZero, ZeroPlus, MinusZero, MinusItself, TimesOne, OneTimes, TimesZero, ZeroTimes, OverOne, ModuloOne, WholeSize, ScaledSize, RowOfCell, ColumnOfCell, CellOfParts}
+use Rattle.index_simplify.specs.declared.law.Law.TheVariants.{Computed, PlusZero, ZeroPlus, MinusZero, MinusItself, TimesOne, OneTimes, TimesZero, ZeroTimes, OverOne, ModuloOne, WholeSize, ScaledSize, RowOfCell, ColumnOfCell, CellOfParts, GreatestZero, ZeroGreatest, LeastZero, ZeroLeast}
 use Rattle.index_simplify.specs.Literals.{computed}
-use Rattle.index_simplify.specs.Tests.{same_operation, is_number, same, is_cell, are_parts, is_whole_size, is_scaled_size}
+use Rattle.index_simplify.specs.Tests.{same_operation, is_number, same, is_zero_beside, is_cell, are_parts, is_whole_size, is_scaled_size}
 
 -- the first argument of an operation; any other expression itself
 abbrev pub first_part : Expression → Expression
@@ -46,6 +46,10 @@ applies r ScaledSize o a b = same_operation o Product && is_scaled_size r a b
 applies r RowOfCell o a b = same_operation o Quotient && is_cell r a b
 applies r ColumnOfCell o a b = same_operation o Remainder && is_cell r a b
 applies r CellOfParts o a b = same_operation o Sum && are_parts a b
+applies r GreatestZero o a b = same_operation o Greatest && is_zero_beside b a
+applies r ZeroGreatest o a b = same_operation o Greatest && is_zero_beside a b
+applies r LeastZero o a b = same_operation o Least && is_zero_beside b a
+applies r ZeroLeast o a b = same_operation o Least && is_zero_beside a b
 
 -- what has the operation's value then
 abbrev pub applied : Law → Operation → Expression → Expression → Expression
@@ -65,3 +69,7 @@ applied ScaledSize o a b = scaled a b
 applied RowOfCell o a b = first_part (first_part a)
 applied ColumnOfCell o a b = second_part a
 applied CellOfParts o a b = first_part (first_part a)
+applied GreatestZero o a b = a
+applied ZeroGreatest o a b = b
+applied LeastZero o a b = Literal 0
+applied ZeroLeast o a b = Literal 0

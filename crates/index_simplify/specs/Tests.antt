@@ -122,6 +122,10 @@ abbrev pub is_begin : Expression → (length : Expression) → Bool
 is_begin (Binary Product row n) m = same n m && is_count 3 row
 is_begin _ m = false
 
+-- nothing, beside what is never below 0
+abbrev pub is_zero_beside : (nothing other : Expression) → Bool
+is_zero_beside nothing other = is_number 0 nothing && is_count 3 other
+
 -- the cell of a row of this length and of a column in it
 abbrev pub is_cell : PlainRanges → Expression → (length : Expression) → Bool
 is_cell r (Binary Sum begin column) m = is_begin begin m && is_below r column m

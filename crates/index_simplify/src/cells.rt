@@ -173,6 +173,84 @@ fn sum_over(
     }
 }
 
+// What has the value of a cell modulo a length of which its width is so many times.
+fn column_modulo(
+    alloc: Global,
+    width: &Index,
+    column: &Index,
+    n: &Index,
+) -> Result<Option<Index>, AllocError>
+    ensures { IfOk result (λ e. option_map expression_of e
+        ≡ spec.column_modulo (expression_of width.now) (expression_of column.now)
+        (expression_of n.now)) }
+{
+    if !is_natural(n) {
+        return Ok(None);
+    }
+    match natural_over(alloc, width, n)? {
+        Some(_) => Ok(Some(on_copies(alloc, Operation::Remainder, column, n)?)),
+        None => Ok(None),
+    }
+}
+
+// `(row mod rows) * width + column`.
+fn cell_around(
+    alloc: Global,
+    rows: Index,
+    row: &Index,
+    width: &Index,
+    column: &Index,
+) -> Result<Index, AllocError>
+    ensures { IfOk result (λ e. expression_of e
+        ≡ Binary operation.Sum
+        (Binary operation.Product
+        (Binary operation.Remainder (expression_of row.now) (expression_of rows))
+        (expression_of width.now)) (expression_of column.now)) }
+{
+    let within = Index::binary(alloc, Operation::Remainder, row.copy(alloc)?, rows)?;
+    let begin = Index::binary(alloc, Operation::Product, within, width.copy(alloc)?)?;
+    Index::binary(alloc, Operation::Sum, begin, column.copy(alloc)?)
+}
+
+// The same, where it stands no deeper than what it has the value of.
+fn row_modulo(
+    alloc: Global,
+    rows: Index,
+    row: &Index,
+    width: &Index,
+    column: &Index,
+) -> Result<Option<Index>, AllocError>
+    ensures { IfOk result (λ e. option_map expression_of e
+        ≡ spec.row_modulo (expression_of rows) (expression_of row.now) (expression_of width.now)
+        (expression_of column.now)) }
+{
+    if is_no_higher(&rows, row) || is_no_higher(&rows, width) {
+        return Ok(Some(cell_around(alloc, rows, row, width, column)?));
+    }
+    Ok(None)
+}
+
+// What has the value of a cell modulo a length, where one of the lengths is so many times the other.
+fn cell_modulo(
+    alloc: Global,
+    row: &Index,
+    width: &Index,
+    column: &Index,
+    n: &Index,
+) -> Result<Option<Index>, AllocError>
+    ensures { IfOk result (λ e. option_map expression_of e
+        ≡ spec.cell_modulo (expression_of row.now) (expression_of width.now)
+        (expression_of column.now) (expression_of n.now)) }
+{
+    if let Some(e) = column_modulo(alloc, width, column, n)? {
+        return Ok(Some(e));
+    }
+    match natural_over(alloc, n, width)? {
+        Some(rows) => row_modulo(alloc, rows, row, width, column),
+        None => Ok(None),
+    }
+}
+
 // What has the value of a sum modulo a length.
 fn sum_modulo(
     alloc: Global,
@@ -187,13 +265,10 @@ fn sum_modulo(
 {
     match begin {
         Index::Binary(Operation::Product, row, width) => {
-            if !(is_natural(n) && is_cell(alloc, row, width, column, ranges)?) {
+            if !is_cell(alloc, row, width, column, ranges)? {
                 return Ok(None);
             }
-            match natural_over(alloc, width, n)? {
-                Some(_) => Ok(Some(on_copies(alloc, Operation::Remainder, column, n)?)),
-                None => Ok(None),
-            }
+            cell_modulo(alloc, row, width, column, n)
         }
         _ => Ok(None),
     }
@@ -280,6 +355,23 @@ fn sum(alloc: Global, a: &Index, b: &Index, ranges: &Ranges) -> Result<Option<In
     Ok(None)
 }
 
+// What has the value of a product, where one of its factors is 0.
+fn product(
+    alloc: Global,
+    a: &Index,
+    b: &Index,
+    ranges: &Ranges,
+) -> Result<Option<Index>, AllocError>
+    ensures { IfOk result (λ e. option_map expression_of e
+        ≡ spec.product (ranges_of ranges.now) (expression_of a.now) (expression_of b.now)) }
+{
+    let one = Index::Literal(1);
+    if stays_below(alloc, a, &one, ranges)? || stays_below(alloc, b, &one, ranges)? {
+        return Ok(Some(Index::Literal(0)));
+    }
+    Ok(None)
+}
+
 // What has the value of a quotient, by one of the laws.
 fn quotient(
     alloc: Global,
@@ -340,6 +432,7 @@ fn parted_operation(
 {
     let found = match operation {
         Operation::Sum => sum(alloc, &a, &b, ranges)?,
+        Operation::Product => product(alloc, &a, &b, ranges)?,
         Operation::Quotient => quotient(alloc, &a, &b, ranges)?,
         Operation::Remainder => remainder(alloc, &a, &b, ranges)?,
         _ => None,

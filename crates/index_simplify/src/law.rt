@@ -47,10 +47,18 @@ pub enum Law {
     ColumnOfCell,
     /// `(e / n) * n + e mod n` is `e`.
     CellOfParts,
+    /// The greater of `e` and 0 is `e`, where nothing is taken away in `e`.
+    GreatestZero,
+    /// The greater of 0 and `e` is `e`, where nothing is taken away in `e`.
+    ZeroGreatest,
+    /// The lesser of `e` and 0 is 0, where nothing is taken away in `e`.
+    LeastZero,
+    /// The lesser of 0 and `e` is 0, where nothing is taken away in `e`.
+    ZeroLeast,
 }
 
 /// The laws that are tried, in this order.
-pub const LAWS: [Law; 16] = [
+pub const LAWS: [Law; 20] = [
     Law::Computed,
     Law::PlusZero,
     Law::ZeroPlus,
@@ -67,6 +75,10 @@ pub const LAWS: [Law; 16] = [
     Law::RowOfCell,
     Law::ColumnOfCell,
     Law::CellOfParts,
+    Law::GreatestZero,
+    Law::ZeroGreatest,
+    Law::LeastZero,
+    Law::ZeroLeast,
 ];
 
 // How many operations deep a row is looked into, so that the work at
@@ -150,6 +162,13 @@ fn are_parts(a: &Index, b: &Index) -> bool
         Index::Binary(Operation::Remainder, dividend, divisor) => is_rounded(a, dividend, divisor),
         _ => false,
     }
+}
+
+// Whether the one is 0, and the other is never below it.
+fn is_zero_beside(zero: &Index, other: &Index) -> bool
+    ensures { result ≡ tests.is_zero_beside (expression_of zero.now) (expression_of other.now) }
+{
+    is_number(0, zero) && is_natural(other)
 }
 
 // Whether it is a divisor of this number, and below it.
@@ -281,6 +300,14 @@ impl Law {
                 same_operation(operation, Operation::Remainder) && is_cell(a, b, ranges)
             }
             Law::CellOfParts => same_operation(operation, Operation::Sum) && are_parts(a, b),
+            Law::GreatestZero => {
+                same_operation(operation, Operation::Greatest) && is_zero_beside(b, a)
+            }
+            Law::ZeroGreatest => {
+                same_operation(operation, Operation::Greatest) && is_zero_beside(a, b)
+            }
+            Law::LeastZero => same_operation(operation, Operation::Least) && is_zero_beside(b, a),
+            Law::ZeroLeast => same_operation(operation, Operation::Least) && is_zero_beside(a, b),
         }
     }
 
@@ -291,11 +318,14 @@ impl Law {
     {
         match self {
             Law::Computed => Index::Literal(computed(operation, &a, &b).unwrap_or(0)),
-            Law::PlusZero | Law::MinusZero | Law::TimesOne | Law::OverOne => a,
-            Law::ZeroPlus | Law::OneTimes => b,
-            Law::MinusItself | Law::TimesZero | Law::ZeroTimes | Law::ModuloOne => Index::Literal(
-                0,
-            ),
+            Law::PlusZero | Law::MinusZero | Law::TimesOne | Law::OverOne | Law::GreatestZero => a,
+            Law::ZeroPlus | Law::OneTimes | Law::ZeroGreatest => b,
+            Law::MinusItself
+            | Law::TimesZero
+            | Law::ZeroTimes
+            | Law::ModuloOne
+            | Law::LeastZero
+            | Law::ZeroLeast => Index::Literal(0),
             Law::WholeSize => first_part(b),
             Law::ScaledSize => scaled(a, b),
             Law::RowOfCell | Law::CellOfParts => first_part(first_part(a)),

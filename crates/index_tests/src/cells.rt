@@ -66,8 +66,24 @@ const BELOW: [Row; 7] = [
     ),
 ];
 
-// What is 0 by its own range, or in a loop of one turn, is nothing to a sum.
-const NOTHING: [Row; 5] = [
+// What is 0 by its own range, or in a loop of one turn, is nothing to a sum, and a product with it
+// is 0.
+const NOTHING: [Row; 8] = [
+    (
+        &[Tree::Number(3), Tree::Number(1)],
+        Tree::Binary(Product, &I, &J),
+        "0",
+    ),
+    (
+        &[Tree::Number(3), Tree::Number(1)],
+        Tree::Binary(Product, &J, &I),
+        "0",
+    ),
+    (
+        &[Tree::Number(3), Tree::Number(2)],
+        Tree::Binary(Product, &I, &J),
+        "(i0 * i1)",
+    ),
     (&[], Tree::Binary(Sum, &I, &Tree::Variable(1, 0)), "i0"),
     (
         &[],
@@ -127,7 +143,7 @@ const LITERALS: [Row; 7] = [
     (
         &[Tree::Number(3), Tree::Number(64), Tree::Number(9)],
         Tree::Binary(Remainder, &CELL, &Tree::Number(24)),
-        "(((i1 * 3) + (i2 / 3)) % 24)",
+        "(((i1 % 8) * 3) + (i2 / 3))",
     ),
     (
         &[Tree::Number(3), Tree::Number(64), Tree::Number(9)],
@@ -249,7 +265,47 @@ const OUTSIDE: [Row; 1] = [(
     "(((i0 * 8) + (i1 % 8)) / 16)",
 )];
 
-const TABLES: [&[Row]; 5] = [&BELOW, &NOTHING, &LITERALS, &SIZES, &OUTSIDE];
+// A cell modulo so many rows of its own length, or of no whole number of them; and one whose column
+// may reach the next row.
+const ROUND: [Row; 5] = [
+    (
+        &[Tree::Number(7), Tree::Number(3)],
+        Tree::Binary(Remainder, &PLACE, &Tree::Number(6)),
+        "(((i0 % 2) * 3) + i1)",
+    ),
+    (
+        &[Tree::Number(7), Tree::Number(3)],
+        Tree::Binary(Remainder, &PLACE, &Tree::Number(7)),
+        "(((i0 * 3) + i1) % 7)",
+    ),
+    (
+        &[Tree::Number(7), Tree::Number(4)],
+        Tree::Binary(Remainder, &PLACE, &Tree::Number(6)),
+        "(((i0 * 3) + i1) % 6)",
+    ),
+    (
+        &[Tree::Number(7), Tree::Size(0)],
+        Tree::Binary(
+            Remainder,
+            &Tree::Binary(Sum, &Tree::Binary(Product, &I, &Tree::Size(0)), &J),
+            &Tree::Binary(Product, &Tree::Number(2), &Tree::Size(0)),
+        ),
+        "(((i0 % 2) * s0) + i1)",
+    ),
+    (
+        &[Tree::Number(7), Tree::Size(0)],
+        Tree::Binary(
+            Remainder,
+            &Tree::Binary(Sum, &Tree::Binary(Product, &I, &Tree::Size(0)), &J),
+            &Tree::Binary(Product, &Tree::Number(2), &Tree::Size(1)),
+        ),
+        "(((i0 * s0) + i1) % (2 * s1))",
+    ),
+];
+
+const PLACE: Tree = Tree::Binary(Sum, &Tree::Binary(Product, &I, &Tree::Number(3)), &J);
+
+const TABLES: [&[Row]; 6] = [&BELOW, &NOTHING, &LITERALS, &ROUND, &SIZES, &OUTSIDE];
 
 #[test]
 fn cells_are_cut_into_parts(rt: HostRuntime) -> Result<(), Fail> {

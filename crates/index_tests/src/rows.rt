@@ -91,7 +91,33 @@ const LITERALS: [(Tree, &str); 14] = [
         "3",
     ),
     (Tree::Binary(Least, &I, &Tree::Number(3)), "min(i0, 3)"),
-    (Tree::Binary(Greatest, &I, &Tree::Number(0)), "max(i0, 0)"),
+    (Tree::Binary(Greatest, &I, &Tree::Number(3)), "max(i0, 3)"),
+];
+
+// The greater and the lesser of 0 and what is never below it; where something is taken away, the
+// number may be.
+const ZEROS: [(Tree, &str); 8] = [
+    (Tree::Binary(Greatest, &I, &Tree::Number(0)), "i0"),
+    (Tree::Binary(Greatest, &Tree::Number(0), &I), "i0"),
+    (Tree::Binary(Least, &I, &Tree::Number(0)), "0"),
+    (Tree::Binary(Least, &Tree::Number(0), &I), "0"),
+    (
+        Tree::Binary(Greatest, &Tree::Binary(Sum, &I, &J), &Tree::Number(0)),
+        "(i0 + i1)",
+    ),
+    (
+        Tree::Binary(
+            Greatest,
+            &Tree::Binary(Difference, &I, &J),
+            &Tree::Number(0),
+        ),
+        "max((i0 - i1), 0)",
+    ),
+    (
+        Tree::Binary(Least, &Tree::Number(0), &Tree::Binary(Difference, &I, &J)),
+        "min(0, (i0 - i1))",
+    ),
+    (Tree::Binary(Least, &Tree::Number(1), &I), "min(1, i0)"),
 ];
 
 // A row, or a column below the row's length, of their cell; a column that may reach the
@@ -572,9 +598,10 @@ const LOOPS: [Row; 8] = [
 ];
 
 // What sizes are multiples of, and rows.
-const TABLES: [(&[u32], &[(Tree, &str)]); 6] = [
+const TABLES: [(&[u32], &[(Tree, &str)]); 7] = [
     (&[], &UNITS),
     (&[], &LITERALS),
+    (&[], &ZEROS),
     (&[], &CELLS),
     (&[], &PARTS),
     (&[], &WHOLE),

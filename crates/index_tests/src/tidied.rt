@@ -344,7 +344,7 @@ const PARTS: [Row; 8] = [
 // A bound that may wrap tells nothing of its turns, and neither does one that is lacking.
 const BOUNDS: [Row; 5] = [
     (
-        &[Tree::Number(1), Tree::Number(3)],
+        &[Tree::Number(2), Tree::Number(3)],
         Tree::Binary(
             Quotient,
             &Tree::Binary(Sum, &Tree::Binary(Product, &I, &Tree::Number(3)), &J),
@@ -354,7 +354,7 @@ const BOUNDS: [Row; 5] = [
     ),
     (
         &[
-            Tree::Number(1),
+            Tree::Number(2),
             Tree::Binary(Product, &Tree::Size(2), &Tree::Size(2)),
         ],
         Tree::Binary(
@@ -366,7 +366,7 @@ const BOUNDS: [Row; 5] = [
     ),
     (
         &[
-            Tree::Number(1),
+            Tree::Number(2),
             Tree::Binary(Product, &Tree::Size(0), &Tree::Size(0)),
         ],
         Tree::Binary(
@@ -386,7 +386,7 @@ const BOUNDS: [Row; 5] = [
     ),
     (
         &[
-            Tree::Number(1),
+            Tree::Number(2),
             Tree::Binary(Product, &Tree::Size(2), &Tree::Size(2)),
         ],
         Tree::Binary(

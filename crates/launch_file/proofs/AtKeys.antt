@@ -8,13 +8,13 @@ use Rattle.kernel_tree.specs.Launch.{Launch, in_a_row}
 use Rattle.kernel_tree.specs.Schedule.{Schedule, Numbers, Seed, in_order}
 use Rattle.lift_tree.specs.Launches.{IsFixedSize}
 use Rattle.launch_file.specs.declared.file.Ask.{Ask}
-use Rattle.launch_file.specs.declared.file.Ask.TheVariants.{Run, Eval}
+use Rattle.launch_file.specs.declared.file.Ask.TheVariants.{Run, Eval, Cost}
 use Rattle.launch_file.specs.declared.refusal.Key.TheVariants as key
 use Rattle.launch_file.specs.declared.refusal.LaunchNo.{LaunchNo}
 use Rattle.launch_file.specs.declared.refusal.LaunchNo.TheVariants as no
 use Rattle.launch_file.specs.Json.{is_object, whole_at, object_at, word_in, words_in, number_data}
-use Rattle.launch_file.specs.LaunchFile.{StandsAt, IsScheduleData, IsSchedule, GivesSchedule, GivesItems, asks_in}
-use Rattle.launch_file.specs.Judged.{demand, schedule_from, schedule_in, schedule_at, schedule_judged, count_judged, Keyed, keys_judged, is_asked_size, is_grouped, is_enough, items_judged}
+use Rattle.launch_file.specs.LaunchFile.{HoldsInputs, StandsAt, IsScheduleData, IsSchedule, GivesSchedule, GivesItems, asks_in}
+use Rattle.launch_file.specs.Judged.{holder_judged, demand, schedule_from, schedule_in, schedule_at, schedule_judged, count_judged, Keyed, keys_judged, is_asked_size, is_grouped, is_enough, items_judged}
 use Rattle.launch_file.proofs.Options.{and_ok, then_ok, ok_or_is, demand_is, demand_gives, yes, same_ok, and_some, map_some, and_parts, and_both, le_of, le_to, eq_of, eq_to}
 use Rattle.launch_file.proofs.WrittenData.{whole_at_is, whole_at_gives, object_at_is, object_at_gives, word_in_is, word_in_gives, words_in_is, words_in_gives, as_array_is, no_list}
 
@@ -48,42 +48,61 @@ schedule_at_gives (Some d) s h = ap (λ p. ok_or p (no.Missing key.Schedule)) (s
 
 schedule_is : (ask : Ask) (d : Data) (s : Schedule) → schedule_judged ask d ≡ Ok s → GivesSchedule ask d s
 schedule_is (Run task local) d s h = schedule_at_is (get (codes "schedule") d) s h
+schedule_is (Cost task local) d s h = sym (same_ok in_order s h)
 schedule_is Eval d s h = sym (same_ok in_order s h)
 
 schedule_gives : (ask : Ask) (d : Data) (s : Schedule) → GivesSchedule ask d s → schedule_judged ask d ≡ Ok s
 schedule_gives (Run task local) d s h = schedule_at_gives (get (codes "schedule") d) s h
+schedule_gives (Cost task local) d s h = ap yes (sym h)
 schedule_gives Eval d s h = ap yes (sym h)
 
 -- ---- the work-items
 abbrev IsCount : Ask → List ℕ → Data → ℕ → Type 0
 IsCount (Run task local) name d n = StandsAt name d n
+IsCount (Cost task local) name d n = StandsAt name d n
 IsCount Eval name d n = n ≡ 1
 
 count_is : (ask : Ask) (name : List ℕ) (missing : LaunchNo) (d : Data) (n : ℕ) → count_judged ask name missing d ≡ Ok n → IsCount ask name d n
 count_is (Run task local) name missing d n h = whole_at_is name d n (ok_or_is (whole_at name d) missing n h)
+count_is (Cost task local) name missing d n h = whole_at_is name d n (ok_or_is (whole_at name d) missing n h)
 count_is Eval name missing d n h = sym (same_ok 1 n h)
 
 count_gives : (ask : Ask) (name : List ℕ) (missing : LaunchNo) (d : Data) (n : ℕ) → IsCount ask name d n → count_judged ask name missing d ≡ Ok n
 count_gives (Run task local) name missing d n h = ap (λ o. ok_or o missing) (whole_at_gives name d n h)
+count_gives (Cost task local) name missing d n h = ap (λ o. ok_or o missing) (whole_at_gives name d n h)
 count_gives Eval name missing d n h = ap yes (sym h)
 
 counts_are : (ask : Ask) (d : Data) (l : Launch) → IsCount ask (codes "global") d l.global.0 → IsCount ask (codes "local") d l.local.0 → GivesItems ask d l
 counts_are (Run task local) d l g h = (g, h)
+counts_are (Cost task local) d l g h = (g, h)
 counts_are Eval d l g h = (g, h)
 
 global_is : (ask : Ask) (d : Data) (l : Launch) → GivesItems ask d l → IsCount ask (codes "global") d l.global.0
 global_is (Run task local) d l h = h.0
+global_is (Cost task local) d l h = h.0
 global_is Eval d l h = h.0
 
 local_is : (ask : Ask) (d : Data) (l : Launch) → GivesItems ask d l → IsCount ask (codes "local") d l.local.0
 local_is (Run task local) d l h = h.1
+local_is (Cost task local) d l h = h.1
 local_is Eval d l h = h.1
+
+-- the object of the inputs
+holder_is : (ask : Ask) (d e : Data) → holder_judged ask d ≡ Ok e → HoldsInputs ask d e
+holder_is (Run task local) d e h = object_at_is (codes "inputs") d e (ok_or_is (object_at (codes "inputs") d) (no.Missing key.Inputs) e h)
+holder_is Eval d e h = object_at_is (codes "inputs") d e (ok_or_is (object_at (codes "inputs") d) (no.Missing key.Inputs) e h)
+holder_is (Cost task local) d e h = same_ok d e h
+
+holder_gives : (ask : Ask) (d e : Data) → HoldsInputs ask d e → holder_judged ask d ≡ Ok e
+holder_gives (Run task local) d e h = ap (λ o. ok_or o (no.Missing key.Inputs)) (object_at_gives (codes "inputs") d e h.0 h.1)
+holder_gives Eval d e h = ap (λ o. ok_or o (no.Missing key.Inputs)) (object_at_gives (codes "inputs") d e h.0 h.1)
+holder_gives (Cost task local) d e h = ap yes h
 
 -- ---- the keys
 pub record AreKeyed (ask : Ask) (d : Data) (k : Keyed) (given : List ℕ) : Type 0 where
   pub items : GivesItems ask d (in_a_row k.global k.local given)
   pub sizes : (get (codes "sizes") d ≡ Some k.sizes) × IsTrue (is_object k.sizes)
-  pub inputs : (get (codes "inputs") d ≡ Some k.inputs) × IsTrue (is_object k.inputs)
+  pub inputs : HoldsInputs ask d k.inputs
   pub schedule : GivesSchedule ask d k.schedule
 
 pub keys_are : (ask : Ask) (d : Data) (k : Keyed) (sizes : List ℕ) → keys_judged ask d ≡ Ok k → AreKeyed ask d k sizes
@@ -91,13 +110,13 @@ keys_are ask d k sizes h =
     let g = and_ok (count_judged ask (codes "global") (no.Missing key.Global) d) _ k h in
     let l = and_ok (count_judged ask (codes "local") (no.Missing key.Local) d) _ k g.2 in
     let s = and_ok (ok_or (object_at (codes "sizes") d) (no.Missing key.Sizes)) _ k l.2 in
-    let i = and_ok (ok_or (object_at (codes "inputs") d) (no.Missing key.Inputs)) _ k s.2 in
+    let i = and_ok (holder_judged ask d) _ k s.2 in
     let t = and_ok (schedule_judged ask d) _ k i.2 in
     let whole : Keyed = record { global = g.0; local = l.0; sizes = s.0; inputs = i.0; schedule = t.0 } in
     let found : AreKeyed ask d whole sizes = record {
       items = counts_are ask d (in_a_row g.0 l.0 sizes) (count_is ask (codes "global") (no.Missing key.Global) d g.0 g.1) (count_is ask (codes "local") (no.Missing key.Local) d l.0 l.1);
       sizes = object_at_is (codes "sizes") d s.0 (ok_or_is (object_at (codes "sizes") d) (no.Missing key.Sizes) s.0 s.1);
-      inputs = object_at_is (codes "inputs") d i.0 (ok_or_is (object_at (codes "inputs") d) (no.Missing key.Inputs) i.0 i.1);
+      inputs = holder_is ask d i.0 i.1;
       schedule = schedule_is ask d t.0 t.1;
     } in
     subst (λ x. AreKeyed ask d x sizes) (same_ok whole k t.2) found
@@ -108,7 +127,7 @@ keys_give ask d k sizes h =
     then_ok _ _ k.global k (count_gives ask (codes "global") (no.Missing key.Global) d k.global (global_is ask d launch h.items))
     (then_ok _ _ k.local k (count_gives ask (codes "local") (no.Missing key.Local) d k.local (local_is ask d launch h.items))
     (then_ok _ _ k.sizes k (ap (λ o. ok_or o (no.Missing key.Sizes)) (object_at_gives (codes "sizes") d k.sizes h.sizes.0 h.sizes.1))
-    (then_ok _ _ k.inputs k (ap (λ o. ok_or o (no.Missing key.Inputs)) (object_at_gives (codes "inputs") d k.inputs h.inputs.0 h.inputs.1))
+    (then_ok _ _ k.inputs k (holder_gives ask d k.inputs h.inputs)
     (then_ok _ _ k.schedule k (schedule_gives ask d k.schedule h.schedule) refl))))
 
 -- ---- how many work-items there are
@@ -124,21 +143,29 @@ pub record AreGrouped (ask : Ask) (global local : ℕ) : Type 0 where
 asked_is : (ask : Ask) (local : ℕ) → IsTrue (is_asked_size ask local) → IsFixedSize (asks_in ask).local local
 asked_is (Run task (Some size)) local h = eq_of local size h
 asked_is (Run task None) local h = tt
+asked_is (Cost task (Some size)) local h = eq_of local size h
+asked_is (Cost task None) local h = tt
 asked_is Eval local h = tt
 
 asked_gives : (ask : Ask) (local : ℕ) → IsFixedSize (asks_in ask).local local → IsTrue (is_asked_size ask local)
 asked_gives (Run task (Some size)) local h = eq_to local size h
 asked_gives (Run task None) local h = refl
+asked_gives (Cost task (Some size)) local h = eq_to local size h
+asked_gives (Cost task None) local h = refl
 asked_gives Eval local h = refl
 
 enough_is : (ask : Ask) (global : ℕ) → IsTrue (is_enough ask global) → (asks_in ask).alone ≡ true → global ≡ 1
 enough_is (Run true local) global h t = eq_of global 1 h
 enough_is (Run false local) global h t = absurd (cc)
+enough_is (Cost true local) global h t = eq_of global 1 h
+enough_is (Cost false local) global h t = absurd (cc)
 enough_is Eval global h t = absurd (cc)
 
 enough_gives : (ask : Ask) (global : ℕ) → ((asks_in ask).alone ≡ true → global ≡ 1) → IsTrue (is_enough ask global)
 enough_gives (Run true local) global h = eq_to global 1 (h refl)
 enough_gives (Run false local) global h = refl
+enough_gives (Cost true local) global h = eq_to global 1 (h refl)
+enough_gives (Cost false local) global h = refl
 enough_gives Eval global h = refl
 
 pub items_are : (ask : Ask) (global local : ℕ) (u : Unit {0}) → items_judged ask global local ≡ Ok u → AreGrouped ask global local

@@ -1,9 +1,9 @@
 -- The checks of a launch file of kernels in order give what it gives.
-use Rattle.std.proofs.Common.{◌≡◌, ◌≢◌, ◌∙◌, ℕ, suc, ◌+◌, ◌<◌, List, [], ◌∷◌, ◌++◌, length, take, drop, get_or, refl, sym, ap, subst, arith, append_assoc, Some, None, Bool, true, false}
+use Rattle.std.proofs.Common.{◌≡◌, ◌≢◌, ◌∙◌, ℕ, suc, ◌+◌, ◌<◌, List, [], ◌∷◌, ◌++◌, length, drop, get_or, refl, sym, ap, subst, arith, append_assoc, Some, None, Bool, true, false}
 use Rattle.std.specs.Prelude.{◌==◌, ◌&&◌, IsTrue, IsUtf8, Result, Ok, Err, IfErr, codes, map, option_and_then, if◌then◌else◌}
 use Rattle.std.specs.Option.{ok_or}
 use Rattle.std.specs.Result.{IsErrAnd}
-use Rattle.std.proofs.lemmas.List.{drop_more, map_more, map_push, get_or-map}
+use Rattle.std.proofs.lemmas.List.{drop_more, get_or-map}
 use Rattle.serde_json.specs.Data.{Data, Items, array}
 use Rattle.serde_json.specs.Find.{get, as_array}
 use Rattle.serde_json.specs.Read.{read}
@@ -13,18 +13,14 @@ use Rattle.size_arith.specs.Ranges.{Admissible, sizes_at}
 use Rattle.lift_tree.specs.Limits.{HasProperInputs}
 use Rattle.lift_tree.specs.Programs.{PlainProgram}
 use Rattle.lift_tree.specs.Typing.{declared_by}
-use Rattle.lift_tree.specs.Values.{Value}
 use Rattle.launch_file.specs.declared.file.Ask.{Ask}
 use Rattle.launch_file.specs.declared.refusal.Key.TheVariants as key
 use Rattle.launch_file.specs.declared.refusal.LaunchNo.{LaunchNo}
 use Rattle.launch_file.specs.declared.refusal.LaunchNo.TheVariants as no
-use Rattle.launch_file.specs.declared.file.LaunchFile.{LaunchFile}
-use Rattle.launch_file.specs.declared.stages.Count as held
 use Rattle.launch_file.specs.Json.{is_object, object_at, whole_at}
-use Rattle.launch_file.specs.LaunchFile.{Given, IsSchedule, given_by}
+use Rattle.launch_file.specs.LaunchFile.{IsSchedule}
 use Rattle.launch_file.specs.Judged.{and_then, bases_of, demand, inputs_judged, items_judged, schedule_at, sizes_judged}
-use Rattle.launch_file.specs.Stages.{Shared, Count, launched, GivesStage, GiveStages, GivesAll, IsStagesFile, members, all_objects, objects_in, launches_at, StageKeys, stage_keys_judged, stage_judged, stages_judged_from, shared_given, stage_file_judged, files_judged, stages_judged}
-use Rattle.launch_file.specs.StagesShown.{count_of}
+use Rattle.launch_file.specs.Stages.{Shared, Count, GivenInOrder, GivesCount, GiveCounts, GivesAll, IsStagesFile, members, all_objects, objects_in, launches_at, StageKeys, stage_keys_judged, stage_judged, stages_judged_from, shared_given, stages_judged}
 use Rattle.launch_file.proofs.Options.{and_ok, ok_or_is, demand_is, yes, same_ok, and_some, tested, passed, and_parts, and_both, eq_of, eq_to}
 use Rattle.launch_file.proofs.WrittenData.{whole_at_is, object_at_is, as_array_is}
 use Rattle.launch_file.proofs.AtKeys.{schedule_at_is, items_are}
@@ -65,16 +61,15 @@ stage_keys_are count d k h =
 -- ---- the kernels
 
 module _ (p : PlainProgram) (s : Shared) (adm : Admissible (declared_by p).names s.bases) where
-  stage_is : (k : ℕ) (ask : Ask) (own : Data) (c : Count) → IsTrue (is_object own) → stage_judged k ask own ≡ Ok c → GivesStage p s ask own (launched s c)
+  stage_is : (k : ℕ) (ask : Ask) (own : Data) (c : Count) → IsTrue (is_object own) → stage_judged k ask own ≡ Ok c → GivesCount p s ask own c
   stage_is k ask own c object h =
       let g = and_ok (ok_or (whole_at (codes "global") own) (no.Missing (key.GlobalOf k))) _ c h in
       let l = and_ok (ok_or (whole_at (codes "local") own) (no.Missing (key.LocalOf k))) _ c g.2 in
       let i = and_ok (items_judged ask g.0 l.0) _ c l.2 in
       let grouped = items_are ask g.0 l.0 i.0 i.1 in
       let whole : Count = record { global = g.0; local = l.0 } in
-      let found : GivesStage p s ask own (launched s whole) = record {
+      let found : GivesCount p s ask own whole = record {
         object = object;
-        count = whole;
         global = whole_at_is (codes "global") own g.0 (ok_or_is (whole_at (codes "global") own) (no.Missing (key.GlobalOf k)) g.0 g.1);
         local = whole_at_is (codes "local") own l.0 (ok_or_is (whole_at (codes "local") own) (no.Missing (key.LocalOf k)) l.0 l.1);
         admissible = record {
@@ -87,12 +82,11 @@ module _ (p : PlainProgram) (s : Shared) (adm : Admissible (declared_by p).names
           fixed = grouped.fixed;
           alone = grouped.alone;
         };
-        launch = refl;
       } in
-      subst (λ x. GivesStage p s ask own (launched s x)) (same_ok whole c i.2) found
+      subst (GivesCount p s ask own) (same_ok whole c i.2) found
 
-  stages_are : (k : ℕ) (asks : List Ask) (owns : List Data) (cs : List Count) → length owns ≡ length asks → IsTrue (all_objects owns) → stages_judged_from k asks owns ≡ Ok cs → GiveStages p s asks owns (map (launched s) cs)
-  stages_are k [] [] cs n o h = subst (λ xs. GiveStages p s [] [] (map (launched s) xs)) (same_ok [] cs h) tt
+  stages_are : (k : ℕ) (asks : List Ask) (owns : List Data) (cs : List Count) → length owns ≡ length asks → IsTrue (all_objects owns) → stages_judged_from k asks owns ≡ Ok cs → GiveCounts p s asks owns cs
+  stages_are k [] [] cs n o h = subst (GiveCounts p s [] []) (same_ok [] cs h) tt
   stages_are k [] (own ∷ owns) cs n o h = absurd (omega (arith, n))
   stages_are k (ask ∷ asks) [] cs n o h = absurd (omega (arith, n))
   stages_are k (ask ∷ asks) (own ∷ owns) cs n o h =
@@ -100,17 +94,17 @@ module _ (p : PlainProgram) (s : Shared) (adm : Admissible (declared_by p).names
       let b = and_ok (stages_judged_from (suc k) asks owns) _ cs a.2 in
       let both = and_parts (is_object own) (all_objects owns) o in
       let m : length owns ≡ length asks = omega (arith, n) in
-      subst (λ xs. GiveStages p s (ask ∷ asks) (own ∷ owns) (map (launched s) xs)) (same_ok (a.0 ∷ b.0) cs b.2)
+      subst (GiveCounts p s (ask ∷ asks) (own ∷ owns)) (same_ok (a.0 ∷ b.0) cs b.2)
       (stage_is k ask own a.0 both.0 a.1, stages_are (suc k) asks owns b.0 m both.1 b.1)
 
-pub all_given : (p : PlainProgram) (asks : List Ask) (d : Data) (gs : List Given) → HasProperInputs p → stages_judged p asks d ≡ Ok gs → GivesAll p asks d gs
-all_given p asks d gs proper h =
+pub all_given : (p : PlainProgram) (asks : List Ask) (d : Data) (g : GivenInOrder) → HasProperInputs p → stages_judged p asks d ≡ Ok g → GivesAll p asks d g
+all_given p asks d g proper h =
     let names = (declared_by p).names in
-    let a = and_ok (demand (is_object d) no.NotJson) _ gs h in
-    let k = and_ok (stage_keys_judged (length asks) d) _ gs a.2 in
-    let s = and_ok (sizes_judged 0 p.sizes k.0.sizes) _ gs k.2 in
-    let c = and_ok (stages_judged_from 0 asks k.0.launches) _ gs s.2 in
-    let v = and_ok (inputs_judged s.0 0 p.inputs k.0.inputs) _ gs c.2 in
+    let a = and_ok (demand (is_object d) no.NotJson) _ g h in
+    let k = and_ok (stage_keys_judged (length asks) d) _ g a.2 in
+    let s = and_ok (sizes_judged 0 p.sizes k.0.sizes) _ g k.2 in
+    let c = and_ok (stages_judged_from 0 asks k.0.launches) _ g s.2 in
+    let v = and_ok (inputs_judged s.0 0 p.inputs k.0.inputs) _ g c.2 in
     let at = stage_keys_are (length asks) d k.0 k.1 in
     let r = sizes_are 0 p.sizes k.0.sizes s.0 s.1 in
     let ys = bases_of p.sizes s.0 in
@@ -120,10 +114,10 @@ all_given p asks d gs proper h =
     let all : Shared = shared_given p s.0 k.0.schedule v.0 in
     let each = stages_are p all adm 0 asks k.0.launches c.0 at.as_many at.objects c.1 in
     let own = at.launches in
-    let found : GivesAll p asks d (map (launched all) c.0) = record {
+    let whole : GivenInOrder = record { shared = all; counts = c.0 } in
+    let found : GivesAll p asks d whole = record {
       object = demand_is (is_object d) no.NotJson a.0 a.1;
-      shared = all;
-      gives = record {
+      shared = record {
         sizes = (k.0.sizes, at.sizes.0, at.sizes.1, r.1);
         inputs = (k.0.inputs, at.inputs.0, at.inputs.1, w.0);
         schedule = at.schedule;
@@ -131,12 +125,12 @@ all_given p asks d gs proper h =
         admissible = adm;
         typed = w.1;
       };
-      launches = (own.0, own.1, subst (λ xs. GiveStages p all asks xs (map (launched all) c.0)) (sym own.2) each);
+      launches = (own.0, own.1, subst (λ xs. GiveCounts p all asks xs c.0) (sym own.2) each);
     } in
-    subst (GivesAll p asks d) (same_ok (map (launched all) c.0) gs v.2) found
+    subst (GivesAll p asks d) (same_ok whole g v.2) found
 
-pub stages_file_is : (p : PlainProgram) (asks : List Ask) (bytes : List ℕ) (d : Data) (gs : List Given) → HasProperInputs p → IsUtf8 bytes → read bytes ≡ Some d → stages_judged p asks d ≡ Ok gs → IsStagesFile p asks bytes gs
-stages_file_is p asks bytes d gs proper text e h = (d, (text, e), all_given p asks d gs proper h)
+pub stages_file_is : (p : PlainProgram) (asks : List Ask) (bytes : List ℕ) (d : Data) (g : GivenInOrder) → HasProperInputs p → IsUtf8 bytes → read bytes ≡ Some d → stages_judged p asks d ≡ Ok g → IsStagesFile p asks bytes g
+stages_file_is p asks bytes d g proper text e h = (d, (text, e), all_given p asks d g proper h)
 
 -- ---- what the code owes
 
@@ -189,30 +183,6 @@ handed_on judged (Err x) e same h = λ _. subst (λ y. judged ≡ Err y) (sym sa
 -- the object of this number
 pub own_at : (vs : List json.Value) (i : ℕ) (v : json.Value) → i < length vs → v ≡ get_or vs i v → view v ≡ get_or (map view vs) i (view v)
 own_at vs i v l e = ap view e ∙ sym (get_or-map view vs i v (view v) l)
-
--- ---- one file a kernel
-
--- where the inputs are read, so many files are those of so many kernels
-pub files_step : (p : PlainProgram) (ns : List ℕ) (at : StageKeys) (ks : List held.Count) (i : ℕ) (k : held.Count) (old new : List LaunchFile) (f : LaunchFile) (vs : List Value)
-    → i < length ks → inputs_judged ns 0 p.inputs at.inputs ≡ Ok vs → stage_file_judged p ns at (count_of (get_or ks i k)) ≡ Ok (given_by f)
-    → map given_by old ≡ map (launched (shared_given p ns at.schedule vs)) (map count_of (take i ks)) → new ≡ old ++ f ∷ []
-    → map given_by new ≡ map (launched (shared_given p ns at.schedule vs)) (map count_of (take (i + 1) ks))
-files_step p ns at ks i k old new f vs l read judged before more =
-    let gives = launched (shared_given p ns at.schedule vs) in
-    let c = count_of (get_or ks i k) in
-    let same : gives c ≡ given_by f =
-    same_ok (gives c) (given_by f) (ap (λ r. and_then r (λ us. yes (launched (shared_given p ns at.schedule us) c))) (sym read) ∙ judged) in
-    ap (map given_by) more ∙ map_push given_by old f ∙ ap (λ gs. gs ++ given_by f ∷ []) before
-    ∙ ap (λ g. map gives (map count_of (take i ks)) ++ g ∷ []) (sym same)
-    ∙ sym (ap (map gives) (map_more count_of ks i k l) ∙ map_push gives (map count_of (take i ks)) c)
-
--- inputs that one kernel's file is refused for are those of all
-pub file_refused : (p : PlainProgram) (ns : List ℕ) (at : StageKeys) (c : Count) (cs : List Count) (e : LaunchNo) → stage_file_judged p ns at c ≡ Err e → files_judged p ns at cs ≡ Err e
-file_refused p ns at c cs e h = go (inputs_judged ns 0 p.inputs at.inputs) h
-  where
-    go : (r : Result (List Value) LaunchNo) → and_then r (λ us. yes (launched (shared_given p ns at.schedule us) c)) ≡ Err e → and_then r (λ us. yes (map (launched (shared_given p ns at.schedule us)) cs)) ≡ Err e
-    go (Ok us) h = absurd (cc)
-    go (Err x) h = cc
 
 -- ---- the kernels' own objects
 

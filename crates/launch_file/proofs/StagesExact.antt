@@ -1,6 +1,6 @@
 -- A launch file of kernels in order is refused for nothing, and gives one thing alone.
 use Rattle.std.proofs.Common.{◌≡◌, ◌∙◌, ℕ, suc, List, [], ◌∷◌, length, refl, sym, ap, subst, Some, inl, inr}
-use Rattle.std.specs.Prelude.{IsTrue, Result, Ok, Err, codes, map, option_and_then}
+use Rattle.std.specs.Prelude.{IsTrue, Result, Ok, Err, codes, option_and_then}
 use Rattle.std.specs.Option.{ok_or}
 use Rattle.serde_json.specs.Data.{Data, Items, array}
 use Rattle.serde_json.specs.Find.{get, as_array}
@@ -12,10 +12,9 @@ use Rattle.launch_file.specs.declared.refusal.Key.TheVariants as key
 use Rattle.launch_file.specs.declared.refusal.LaunchNo.{LaunchNo}
 use Rattle.launch_file.specs.declared.refusal.LaunchNo.TheVariants as no
 use Rattle.launch_file.specs.Json.{is_object}
-use Rattle.launch_file.specs.LaunchFile.{Given}
 use Rattle.launch_file.specs.Judged.{AreInRange, bases_of, inputs_judged}
 use Rattle.launch_file.specs.Laws.{StagesChecksAreExact, StagesFilesAreNotRefused, StagesFilesGiveOneThing}
-use Rattle.launch_file.specs.Stages.{Shared, Count, launched, GivesStage, GiveStages, GivesAll, RefusesStages, members, all_objects, objects_in, launches_at, StageKeys, stage_keys_judged, stage_judged, stages_judged_from, shared_given, stages_judged}
+use Rattle.launch_file.specs.Stages.{Shared, Count, GivenInOrder, GivesCount, GiveCounts, GivesAll, RefusesStages, members, all_objects, objects_in, launches_at, StageKeys, stage_keys_judged, stage_judged, stages_judged_from, shared_given, stages_judged}
 use Rattle.launch_file.proofs.Options.{then_ok, demand_gives, yes, same_ok, same_some, and_both}
 use Rattle.launch_file.proofs.WrittenData.{whole_at_gives, object_at_gives}
 use Rattle.launch_file.proofs.AtKeys.{AreGrouped, schedule_at_gives, items_give}
@@ -38,9 +37,9 @@ stage_keys_give count d k h =
     (then_ok _ _ k.inputs k (ap (λ o. ok_or o (no.Missing key.Inputs)) (object_at_gives (codes "inputs") d k.inputs h.inputs.0 h.inputs.1))
     (then_ok _ _ k.schedule k (schedule_at_gives (get (codes "schedule") d) k.schedule h.schedule) refl)))
 
-stage_gives : (p : PlainProgram) (s : Shared) (k : ℕ) (ask : Ask) (own : Data) (g : Given) (h : GivesStage p s ask own g) → stage_judged k ask own ≡ Ok h.count
-stage_gives p s k ask own g h =
-    let grouped : AreGrouped ask h.count.global h.count.local = record {
+stage_gives : (p : PlainProgram) (s : Shared) (k : ℕ) (ask : Ask) (own : Data) (c : Count) → GivesCount p s ask own c → stage_judged k ask own ≡ Ok c
+stage_gives p s k ask own c h =
+    let grouped : AreGrouped ask c.global c.local = record {
       local_least = h.admissible.local_least;
       local_most = h.admissible.local_most;
       global_least = h.admissible.global_least;
@@ -49,83 +48,78 @@ stage_gives p s k ask own g h =
       fixed = h.admissible.fixed;
       alone = h.admissible.alone;
     } in
-    then_ok _ _ h.count.global h.count (ap (λ o. ok_or o (no.Missing (key.GlobalOf k))) (whole_at_gives (codes "global") own h.count.global h.global))
-    (then_ok _ _ h.count.local h.count (ap (λ o. ok_or o (no.Missing (key.LocalOf k))) (whole_at_gives (codes "local") own h.count.local h.local))
-    (then_ok _ _ tt h.count (items_give ask h.count.global h.count.local grouped) refl))
+    then_ok _ _ c.global c (ap (λ o. ok_or o (no.Missing (key.GlobalOf k))) (whole_at_gives (codes "global") own c.global h.global))
+    (then_ok _ _ c.local c (ap (λ o. ok_or o (no.Missing (key.LocalOf k))) (whole_at_gives (codes "local") own c.local h.local))
+    (then_ok _ _ tt c (items_give ask c.global c.local grouped) refl))
 
 -- the work-items that the objects give pass their checks
-record AreCounted (s : Shared) (k : ℕ) (asks : List Ask) (owns : List Data) (gs : List Given) : Type 0 where
-  pub counts : List Count
-  pub judged : stages_judged_from k asks owns ≡ Ok counts
-  pub launches : gs ≡ map (launched s) counts
+record AreCounted (k : ℕ) (asks : List Ask) (owns : List Data) (cs : List Count) : Type 0 where
+  pub judged : stages_judged_from k asks owns ≡ Ok cs
   pub as_many : length owns ≡ length asks
   pub objects : IsTrue (all_objects owns)
 
-stages_give : (p : PlainProgram) (s : Shared) (k : ℕ) (asks : List Ask) (owns : List Data) (gs : List Given) → GiveStages p s asks owns gs → AreCounted s k asks owns gs
-stages_give p s k [] [] [] h = record { counts = []; judged = refl; launches = refl; as_many = refl; objects = refl }
-stages_give p s k [] [] (g ∷ gs) h = absurd h
-stages_give p s k [] (own ∷ owns) gs h = absurd h
-stages_give p s k (ask ∷ asks) [] gs h = absurd h
+stages_give : (p : PlainProgram) (s : Shared) (k : ℕ) (asks : List Ask) (owns : List Data) (cs : List Count) → GiveCounts p s asks owns cs → AreCounted k asks owns cs
+stages_give p s k [] [] [] h = record { judged = refl; as_many = refl; objects = refl }
+stages_give p s k [] [] (c ∷ cs) h = absurd h
+stages_give p s k [] (own ∷ owns) cs h = absurd h
+stages_give p s k (ask ∷ asks) [] cs h = absurd h
 stages_give p s k (ask ∷ asks) (own ∷ owns) [] h = absurd h
-stages_give p s k (ask ∷ asks) (own ∷ owns) (g ∷ gs) h =
-    let c = h.0.count in
-    let r = stages_give p s (suc k) asks owns gs h.1 in
-    let cs = r.counts in
+stages_give p s k (ask ∷ asks) (own ∷ owns) (c ∷ cs) h =
+    let r = stages_give p s (suc k) asks owns cs h.1 in
     record {
-      counts = c ∷ cs;
-      judged = then_ok _ _ c (c ∷ cs) (stage_gives p s k ask own g h.0) (then_ok _ _ cs (c ∷ cs) r.judged refl);
-      launches = ap (λ x. x ∷ gs) h.0.launch ∙ ap (λ xs. launched s c ∷ xs) r.launches;
+      judged = then_ok _ _ c (c ∷ cs) (stage_gives p s k ask own c h.0) (then_ok _ _ cs (c ∷ cs) r.judged refl);
       as_many = ap suc r.as_many;
       objects = and_both (is_object own) (all_objects owns) h.0.object r.objects;
     }
 
-all_gives : (p : PlainProgram) (asks : List Ask) (d : Data) (gs : List Given) → HasProperInputs p → GivesAll p asks d gs → stages_judged p asks d ≡ Ok gs
-all_gives p asks d gs proper h =
+all_gives : (p : PlainProgram) (asks : List Ask) (d : Data) (g : GivenInOrder) → HasProperInputs p → GivesAll p asks d g → stages_judged p asks d ≡ Ok g
+all_gives p asks d g proper h =
     let names = (declared_by p).names in
     let are = proper.declared.names in
-    let s = h.shared in
-    let adm = h.gives.admissible in
+    let s = g.shared in
+    let gives = h.shared in
+    let adm = gives.admissible in
     let own = h.launches in
-    let r = stages_give p s 0 asks (members own.0) gs own.2 in
-    let at : StageKeys = record { launches = members own.0; sizes = h.gives.sizes.0; inputs = h.gives.inputs.0; schedule = s.schedule } in
+    let r = stages_give p s 0 asks (members own.0) g.counts own.2 in
+    let at : StageKeys = record { launches = members own.0; sizes = gives.sizes.0; inputs = gives.inputs.0; schedule = s.schedule } in
     let keyed : AreStageKeys (length asks) d at = record {
       launches = (own.0, own.1, refl);
       as_many = r.as_many;
       objects = r.objects;
-      sizes = (h.gives.sizes.1, h.gives.sizes.2);
-      inputs = (h.gives.inputs.1, h.gives.inputs.2);
-      schedule = h.gives.schedule;
+      sizes = (gives.sizes.1, gives.sizes.2);
+      inputs = (gives.inputs.1, gives.inputs.2);
+      schedule = gives.schedule;
     } in
-    let in_range : AreInRange p.sizes s.sizes = subst (AreInRange p.sizes) (sym h.gives.bases) (sizes_in_range p.sizes s.bases are adm) in
-    let bases_are : bases_of p.sizes s.sizes ≡ s.bases = ap (bases_of p.sizes) h.gives.bases ∙ bases-sizes p.sizes s.bases are adm in
+    let in_range : AreInRange p.sizes s.sizes = subst (AreInRange p.sizes) (sym gives.bases) (sizes_in_range p.sizes s.bases are adm) in
+    let bases_are : bases_of p.sizes s.sizes ≡ s.bases = ap (bases_of p.sizes) gives.bases ∙ bases-sizes p.sizes s.bases are adm in
     let inputs_ok : inputs_judged s.sizes 0 p.inputs at.inputs ≡ Ok s.inputs =
-    subst (λ ns. inputs_judged ns 0 p.inputs at.inputs ≡ Ok s.inputs) (sym h.gives.bases) (inputs_give names s.bases proper.declared.few are adm 0 p.inputs proper.declared.inputs at.inputs s.inputs h.gives.inputs.3 h.gives.typed) in
+    subst (λ ns. inputs_judged ns 0 p.inputs at.inputs ≡ Ok s.inputs) (sym gives.bases) (inputs_give names s.bases proper.declared.few are adm 0 p.inputs proper.declared.inputs at.inputs s.inputs gives.inputs.3 gives.typed) in
     let same : shared_given p s.sizes s.schedule s.inputs ≡ s =
     ap (λ ys. record { sizes = s.sizes; bases = ys; inputs = s.inputs; schedule = s.schedule }) bases_are in
-    let end : yes (map (launched (shared_given p s.sizes s.schedule s.inputs)) r.counts) ≡ Ok gs =
-    ap yes (ap (λ x. map (launched x) r.counts) same ∙ sym r.launches) in
-    then_ok _ _ tt gs (demand_gives (is_object d) no.NotJson h.object)
-    (then_ok _ _ at gs (stage_keys_give (length asks) d at keyed)
-    (then_ok _ _ s.sizes gs (sizes_give 0 p.sizes at.sizes s.sizes in_range h.gives.sizes.3)
-    (then_ok _ _ r.counts gs r.judged
-    (then_ok _ _ s.inputs gs inputs_ok end))))
+    let end : yes (record { shared = shared_given p s.sizes s.schedule s.inputs; counts = g.counts }) ≡ Ok g =
+    ap (λ x. yes (record { shared = x; counts = g.counts })) same in
+    then_ok _ _ tt g (demand_gives (is_object d) no.NotJson h.object)
+    (then_ok _ _ at g (stage_keys_give (length asks) d at keyed)
+    (then_ok _ _ s.sizes g (sizes_give 0 p.sizes at.sizes s.sizes in_range gives.sizes.3)
+    (then_ok _ _ g.counts g r.judged
+    (then_ok _ _ s.inputs g inputs_ok end))))
 
 pub checks_are_exact : StagesChecksAreExact
-checks_are_exact p asks d gs proper = (all_given p asks d gs proper, all_gives p asks d gs proper)
+checks_are_exact p asks d g proper = (all_given p asks d g proper, all_gives p asks d g proper)
 
-ok_no_err : (r : Result (List Given) LaunchNo) (gs : List Given) (e : LaunchNo) → r ≡ Ok gs → r ≡ Err e → ⊥
-ok_no_err r gs e h k = cc
+ok_no_err : (r : Result GivenInOrder LaunchNo) (g : GivenInOrder) (e : LaunchNo) → r ≡ Ok g → r ≡ Err e → ⊥
+ok_no_err r g e h k = cc
 
 pub files_are_not_refused : StagesFilesAreNotRefused
-files_are_not_refused p asks bytes gs e proper h refused = go refused
+files_are_not_refused p asks bytes g e proper h refused = go refused
   where
     go : RefusesStages p asks bytes e → ⊥
     go (inl r) = r.0 h.0 h.1
     go (inr r) =
         let same : h.0 ≡ r.0 = same_some h.0 r.0 (sym h.1.1 ∙ r.1.1) in
-        ok_no_err (stages_judged p asks r.0) gs e (subst (λ d. stages_judged p asks d ≡ Ok gs) same (all_gives p asks h.0 gs proper h.2)) r.2
+        ok_no_err (stages_judged p asks r.0) g e (subst (λ d. stages_judged p asks d ≡ Ok g) same (all_gives p asks h.0 g proper h.2)) r.2
 
 pub files_give_one_thing : StagesFilesGiveOneThing
-files_give_one_thing p asks bytes gs ks proper h j =
+files_give_one_thing p asks bytes g k proper h j =
     let same : h.0 ≡ j.0 = same_some h.0 j.0 (sym h.1.1 ∙ j.1.1) in
-    same_ok gs ks (sym (all_gives p asks h.0 gs proper h.2) ∙ ap (stages_judged p asks) same ∙ all_gives p asks j.0 ks proper j.2)
+    same_ok g k (sym (all_gives p asks h.0 g proper h.2) ∙ ap (stages_judged p asks) same ∙ all_gives p asks j.0 k proper j.2)

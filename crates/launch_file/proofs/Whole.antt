@@ -17,13 +17,14 @@ use Rattle.lift_tree.specs.Values.{Value}
 use Rattle.lift_tree.specs.WorkedOut.{worked_out}
 use Rattle.lift_tree.proofs.Sound.{have_more}
 use Rattle.launch_file.specs.declared.file.Ask.{Ask}
+use Rattle.launch_file.specs.declared.file.Ask.TheVariants.{Run, Eval, Cost}
 use Rattle.launch_file.specs.declared.refusal.Key.TheVariants as key
 use Rattle.launch_file.specs.declared.refusal.LaunchNo.{LaunchNo}
 use Rattle.launch_file.specs.declared.refusal.LaunchNo.TheVariants as no
 use Rattle.launch_file.specs.Json.{is_object, whole_at, data_of}
 use Rattle.lift_tree.specs.Limits.{HasProperInputs}
 use Rattle.launch_file.specs.Inputs.{InputsFit, read_value}
-use Rattle.launch_file.specs.LaunchFile.{Given, Gives, GivesItems, StandsAt, GivesSizes, GivesInputs, IsLaunchFile}
+use Rattle.launch_file.specs.LaunchFile.{Given, Gives, asked_inputs, GivesItems, StandsAt, GivesSizes, GivesInputs, IsLaunchFile}
 use Rattle.launch_file.specs.Judged.{demand, is_in_range, size_judged, sizes_judged, AreInRange, AllInRange, bases_of, Keyed, keys_judged, items_judged, input_judged, inputs_judged, judged, Refuses}
 use Rattle.launch_file.proofs.Options.{and_ok, then_ok, ok_or_is, demand_is, demand_gives, yes, same_ok, same_some}
 use Rattle.launch_file.proofs.WrittenData.{whole_at_is, whole_at_gives}
@@ -99,6 +100,12 @@ row_is l flat =
     ap (λ rows. record { global = (l.global.0, rows); local = (l.local.0, 1); sizes = l.sizes }) (sym flat.one_row)
     ∙ ap (λ rows. record { global = l.global; local = (l.local.0, rows); sizes = l.sizes }) (sym flat.one_local_row)
 
+-- those that are read are formed as all are
+asked_formed : (names : List Name) (ask : Ask) (xs : List PlainInput) → Every (IsFormed names) (types_of names xs) → Every (IsFormed names) (types_of names (asked_inputs ask xs))
+asked_formed names (Run task local) xs h = h
+asked_formed names Eval xs h = h
+asked_formed names (Cost task local) xs h = tt
+
 pub given_is : (p : PlainProgram) (ask : Ask) (d : Data) (g : Given) → HasProperInputs p → judged p ask d ≡ Ok g → Gives p ask d g
 given_is p ask d g proper h =
     let names = (declared_by p).names in
@@ -108,12 +115,12 @@ given_is p ask d g proper h =
     let k = and_ok (keys_judged ask d) _ g a.2 in
     let s = and_ok (sizes_judged 0 p.sizes k.0.sizes) _ g k.2 in
     let i = and_ok (items_judged ask k.0.global k.0.local) _ g s.2 in
-    let v = and_ok (inputs_judged s.0 0 p.inputs k.0.inputs) _ g i.2 in
+    let v = and_ok (inputs_judged s.0 0 (asked_inputs ask p.inputs) k.0.inputs) _ g i.2 in
     let r = sizes_are 0 p.sizes k.0.sizes s.0 s.1 in
     let ys = bases_of p.sizes s.0 in
     let adm : Admissible names ys = admissible_bases p.sizes s.0 r.0 in
     let e : s.0 ≡ sizes_at names ys = sizes-bases p.sizes s.0 r.0 in
-    let w = inputs_are names ys few are adm 0 p.inputs proper.declared.inputs k.0.inputs v.0 (subst (λ ns. inputs_judged ns 0 p.inputs k.0.inputs ≡ Ok v.0) e v.1) in
+    let w = inputs_are names ys few are adm 0 (asked_inputs ask p.inputs) (asked_formed names ask p.inputs proper.declared.inputs) k.0.inputs v.0 (subst (λ ns. inputs_judged ns 0 (asked_inputs ask p.inputs) k.0.inputs ≡ Ok v.0) e v.1) in
     let keyed = keys_are ask d k.0 s.0 k.1 in
     let grouped = items_are ask k.0.global k.0.local i.0 i.1 in
     let whole : Given = record { launch = in_a_row k.0.global k.0.local s.0; bases = ys; inputs = v.0; schedule = k.0.schedule } in
@@ -122,7 +129,7 @@ given_is p ask d g proper h =
       flat = record { one_row = refl; one_local_row = refl };
       items = keyed.items;
       sizes = (k.0.sizes, keyed.sizes.0, keyed.sizes.1, r.1);
-      inputs = (k.0.inputs, keyed.inputs.0, keyed.inputs.1, w.0);
+      inputs = (k.0.inputs, keyed.inputs, w.0);
       schedule = keyed.schedule;
       bases = e;
       admissible = record {
@@ -145,11 +152,11 @@ given_gives p ask d g proper h =
     let are = proper.declared.names in
     let adm = h.admissible.sizes in
     let k : Keyed = record { global = g.launch.global.0; local = g.launch.local.0; sizes = h.sizes.0; inputs = h.inputs.0; schedule = g.schedule } in
-    let keyed : AreKeyed ask d k g.launch.sizes = record { items = subst (GivesItems ask d) (sym (row_is g.launch h.flat)) h.items; sizes = (h.sizes.1, h.sizes.2); inputs = (h.inputs.1, h.inputs.2); schedule = h.schedule } in
+    let keyed : AreKeyed ask d k g.launch.sizes = record { items = subst (GivesItems ask d) (sym (row_is g.launch h.flat)) h.items; sizes = (h.sizes.1, h.sizes.2); inputs = h.inputs.1; schedule = h.schedule } in
     let in_range : AreInRange p.sizes g.launch.sizes = subst (AreInRange p.sizes) (sym h.bases) (sizes_in_range p.sizes g.bases are adm) in
     let bases_are : bases_of p.sizes g.launch.sizes ≡ g.bases = ap (bases_of p.sizes) h.bases ∙ bases-sizes p.sizes g.bases are adm in
-    let inputs_ok : inputs_judged g.launch.sizes 0 p.inputs k.inputs ≡ Ok g.inputs =
-    subst (λ ns. inputs_judged ns 0 p.inputs k.inputs ≡ Ok g.inputs) (sym h.bases) (inputs_give names g.bases proper.declared.few are adm 0 p.inputs proper.declared.inputs k.inputs g.inputs h.inputs.3 h.typed) in
+    let inputs_ok : inputs_judged g.launch.sizes 0 (asked_inputs ask p.inputs) k.inputs ≡ Ok g.inputs =
+    subst (λ ns. inputs_judged ns 0 (asked_inputs ask p.inputs) k.inputs ≡ Ok g.inputs) (sym h.bases) (inputs_give names g.bases proper.declared.few are adm 0 (asked_inputs ask p.inputs) (asked_formed names ask p.inputs proper.declared.inputs) k.inputs g.inputs h.inputs.2 h.typed) in
     let grouped : AreGrouped ask g.launch.global.0 g.launch.local.0 = record {
       local_least = h.admissible.local_least;
       local_most = h.admissible.local_most;

@@ -9,13 +9,13 @@ use Rattle.lift_tree.specs.declared.program.Size.{Size}
 use Rattle.lift_tree.specs.Programs.{PlainInput, PlainProgram}
 use Rattle.lift_tree.specs.Values.{Value}
 use Rattle.launch_file.specs.declared.file.Ask.{Ask}
-use Rattle.launch_file.specs.declared.file.Ask.TheVariants.{Run, Eval}
+use Rattle.launch_file.specs.declared.file.Ask.TheVariants.{Run, Eval, Cost}
 use Rattle.launch_file.specs.declared.refusal.Key.TheVariants as key
 use Rattle.launch_file.specs.declared.refusal.LaunchNo.{LaunchNo}
 use Rattle.launch_file.specs.declared.refusal.LaunchNo.TheVariants as no
 use Rattle.launch_file.specs.Json.{IsJson, is_object, whole_at, object_at, word_in, words_in}
 use Rattle.launch_file.specs.Inputs.{read_value}
-use Rattle.launch_file.specs.LaunchFile.{Given}
+use Rattle.launch_file.specs.LaunchFile.{Given, asked_inputs}
 
 -- one check after another: the first that fails says why
 abbrev pub and_then : {A B E : Type 0} → Result A E → (A → Result B E) → Result B E
@@ -42,15 +42,24 @@ abbrev pub schedule_at : Option Data → Result Schedule LaunchNo
 schedule_at None = Ok in_order
 schedule_at (Some d) = ok_or (schedule_in d) (no.Missing key.Schedule)
 
--- the schedule of a file; an evaluation has none to read
+-- the schedule of a file; an evaluation and a cost have none to read
 abbrev pub schedule_judged : Ask → Data → Result Schedule LaunchNo
 schedule_judged (Run task local) d = schedule_at (get (codes "schedule") d)
 schedule_judged Eval d = Ok in_order
+schedule_judged (Cost task local) d = Ok in_order
 
 -- how many work-items there are in all, or in a group; an evaluation has one
 abbrev pub count_judged : Ask → List ℕ → LaunchNo → Data → Result ℕ LaunchNo
 count_judged (Run task local) name missing d = ok_or (whole_at name d) missing
+count_judged (Cost task local) name missing d = ok_or (whole_at name d) missing
 count_judged Eval name missing d = Ok 1
+
+-- the object of the inputs; a cost has none to read
+abbrev pub holder_judged : Ask → Data → Result Data LaunchNo
+holder_judged (Run task local) d =
+    ok_or (object_at (codes "inputs") d) (no.Missing key.Inputs)
+holder_judged Eval d = ok_or (object_at (codes "inputs") d) (no.Missing key.Inputs)
+holder_judged (Cost task local) d = Ok d
 
 -- what stands at the keys
 pub record Keyed : Type 0 where
@@ -66,7 +75,7 @@ keys_judged ask d =
     and_then (count_judged ask (codes "global") (no.Missing key.Global) d) (λ global.
     and_then (count_judged ask (codes "local") (no.Missing key.Local) d) (λ local.
     and_then (ok_or (object_at (codes "sizes") d) (no.Missing key.Sizes)) (λ sizes.
-    and_then (ok_or (object_at (codes "inputs") d) (no.Missing key.Inputs)) (λ inputs.
+    and_then (holder_judged ask d) (λ inputs.
     and_then (schedule_judged ask d) (λ schedule.
     Ok (record {
       global = global;
@@ -122,12 +131,16 @@ is_grouped global local =
 abbrev pub is_asked_size : Ask → (local : ℕ) → Bool
 is_asked_size (Run task (Some size)) local = local == size
 is_asked_size (Run task None) local = true
+is_asked_size (Cost task (Some size)) local = local == size
+is_asked_size (Cost task None) local = true
 is_asked_size Eval local = true
 
 -- a term without a parallel map is run by one work-item
 abbrev pub is_enough : Ask → (global : ℕ) → Bool
 is_enough (Run true asked) global = global == 1
 is_enough (Run false asked) global = true
+is_enough (Cost true asked) global = global == 1
+is_enough (Cost false asked) global = true
 is_enough Eval global = true
 
 -- whole groups, of the size that is asked for, and one work-item where no more are needed
@@ -160,7 +173,7 @@ judged p ask d =
     and_then (keys_judged ask d) (λ at.
     and_then (sizes_judged 0 p.sizes at.sizes) (λ sizes.
     and_then (items_judged ask at.global at.local) (λ _.
-    and_then (inputs_judged sizes 0 p.inputs at.inputs) (λ inputs.
+    and_then (inputs_judged sizes 0 (asked_inputs ask p.inputs) at.inputs) (λ inputs.
     Ok (record {
       launch = in_a_row at.global at.local sizes;
       bases = bases_of p.sizes sizes;

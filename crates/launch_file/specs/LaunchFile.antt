@@ -12,8 +12,9 @@ use Rattle.lift_tree.specs.Programs.{PlainInput, PlainProgram}
 use Rattle.lift_tree.specs.Types.{HaveTypes}
 use Rattle.lift_tree.specs.Typing.{declared_by}
 use Rattle.lift_tree.specs.Values.{Value, value_of}
+use Rattle.lift_tree.specs.WorkedOut.{worked_out}
 use Rattle.launch_file.specs.declared.file.Ask.{Ask}
-use Rattle.launch_file.specs.declared.file.Ask.TheVariants.{Run, Eval}
+use Rattle.launch_file.specs.declared.file.Ask.TheVariants.{Run, Eval, Cost}
 use Rattle.launch_file.specs.declared.file.LaunchFile as held
 use Rattle.launch_file.specs.Json.{IsJson, is_object, number_data, items_data, data_of}
 
@@ -37,6 +38,7 @@ given_by f = record {
 -- what is asked of the launch; of an evaluation's nothing
 abbrev pub asks_in : Ask → Asks
 asks_in (Run task local) = record { alone = task; local = local }
+asks_in (Cost task local) = record { alone = task; local = local }
 asks_in Eval = record { alone = false; local = None }
 
 -- the whole number stands at the key
@@ -46,6 +48,8 @@ StandsAt key d n = get key d ≡ Some (number_data n)
 -- the work-items in all and in a group, along the row; an evaluation has one
 abbrev pub GivesItems : Ask → Data → Launch → Type 0
 GivesItems (Run task asked) d l =
+    StandsAt (codes "global") d l.global.0 × StandsAt (codes "local") d l.local.0
+GivesItems (Cost task asked) d l =
     StandsAt (codes "global") d l.global.0 × StandsAt (codes "local") d l.local.0
 GivesItems Eval d l = (l.global.0 ≡ 1) × (l.local.0 ≡ 1)
 
@@ -71,10 +75,23 @@ abbrev pub IsSchedule : Option Data → Schedule → Type 0
 IsSchedule None s = s ≡ in_order
 IsSchedule (Some d) s = IsScheduleData d s
 
--- an evaluation has the empty list
+-- an evaluation and a cost have the empty list
 abbrev pub GivesSchedule : Ask → Data → Schedule → Type 0
 GivesSchedule (Run task local) d s = IsSchedule (get (codes "schedule") d) s
 GivesSchedule Eval d s = s ≡ in_order
+GivesSchedule (Cost task local) d s = s ≡ in_order
+
+-- the inputs that are read: for a cost none
+abbrev pub asked_inputs : Ask → List PlainInput → List PlainInput
+asked_inputs (Run task local) is = is
+asked_inputs Eval is = is
+asked_inputs (Cost task local) is = []
+
+-- the object that they stand in
+abbrev pub HoldsInputs : Ask → Data → Data → Type 0
+HoldsInputs (Run task local) d e = (get (codes "inputs") d ≡ Some e) × IsTrue (is_object e)
+HoldsInputs Eval d e = (get (codes "inputs") d ≡ Some e) × IsTrue (is_object e)
+HoldsInputs (Cost task local) d e = d ≡ e
 
 -- A value is a launch file of the program, and this is what it gives: an admissible
 -- launch, and inputs of their types.
@@ -84,13 +101,14 @@ pub record Gives (p : PlainProgram) (ask : Ask) (d : Data) (g : Given) : Type 0 
   pub items : GivesItems ask d g.launch
   pub sizes : (e : Data) × (get (codes "sizes") d ≡ Some e) × IsTrue (is_object e)
       × GivesSizes p.sizes e g.launch.sizes
-  pub inputs : (e : Data) × (get (codes "inputs") d ≡ Some e) × IsTrue (is_object e)
-      × GivesInputs p.inputs e g.inputs
+  pub inputs : (e : Data) × HoldsInputs ask d e
+      × GivesInputs (asked_inputs ask p.inputs) e g.inputs
   pub schedule : GivesSchedule ask d g.schedule
   pub bases : g.launch.sizes ≡ sizes_at (declared_by p).names g.bases
   pub admissible : IsAdmissibleLaunch (declared_by p).names
       (asks_in ask) g.bases g.launch.global.0 g.launch.local.0
-  pub typed : HaveTypes g.bases (declared_by p).inputs g.inputs
+  pub typed : HaveTypes g.bases
+      (map (λ i. worked_out (declared_by p).names i.ty) (asked_inputs ask p.inputs)) g.inputs
 
 -- the bytes are a launch file of the program
 abbrev pub IsLaunchFile : PlainProgram → Ask → List ℕ → Given → Type 0

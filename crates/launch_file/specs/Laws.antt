@@ -11,7 +11,7 @@ use Rattle.lift_tree.specs.declared.value.Val.{Val}
 use Rattle.lift_tree.specs.declared.value.Val as held
 use Rattle.launch_file.specs.LaunchFile.{Given, Gives, IsLaunchFile}
 use Rattle.launch_file.specs.Judged.{Refuses, judged}
-use Rattle.launch_file.specs.Stages.{GivesAll, IsStagesFile, RefusesStages, stages_judged}
+use Rattle.launch_file.specs.Stages.{GivenInOrder, GivesAll, IsStagesFile, RefusesStages, stages_judged}
 
 -- a value passes the checks exactly where it is a launch file, and then they find what it gives
 abbrev pub ChecksAreExact : Type 0
@@ -34,21 +34,21 @@ FilesGiveOneThing =
 -- and so of kernels in order: a value passes the checks exactly where it is a launch file of them
 abbrev pub StagesChecksAreExact : Type 0
 StagesChecksAreExact =
-    (p : PlainProgram) (asks : List Ask) (d : Data) (gs : List Given) → HasProperInputs p
-    → (stages_judged p asks d ≡ Ok gs) ↔ GivesAll p asks d gs
+    (p : PlainProgram) (asks : List Ask) (d : Data) (g : GivenInOrder) → HasProperInputs p
+    → (stages_judged p asks d ≡ Ok g) ↔ GivesAll p asks d g
 
 -- a launch file of kernels in order is refused for nothing
 abbrev pub StagesFilesAreNotRefused : Type 0
 StagesFilesAreNotRefused =
-    (p : PlainProgram) (asks : List Ask) (bytes : List ℕ) (gs : List Given) (e : LaunchNo)
+    (p : PlainProgram) (asks : List Ask) (bytes : List ℕ) (g : GivenInOrder) (e : LaunchNo)
     → HasProperInputs p
-    → IsStagesFile p asks bytes gs → ¬ RefusesStages p asks bytes e
+    → IsStagesFile p asks bytes g → ¬ RefusesStages p asks bytes e
 
 -- a launch file of kernels in order gives one thing
 abbrev pub StagesFilesGiveOneThing : Type 0
 StagesFilesGiveOneThing =
-    (p : PlainProgram) (asks : List Ask) (bytes : List ℕ) (gs hs : List Given) → HasProperInputs p
-    → IsStagesFile p asks bytes gs → IsStagesFile p asks bytes hs → gs ≡ hs
+    (p : PlainProgram) (asks : List Ask) (bytes : List ℕ) (g h : GivenInOrder) → HasProperInputs p
+    → IsStagesFile p asks bytes g → IsStagesFile p asks bytes h → g ≡ h
 
 -- the value of a list, as inputs are held, is the array of its members' values
 abbrev pub ListsAreArrays : Type 0

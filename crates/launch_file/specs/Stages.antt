@@ -1,10 +1,9 @@
--- Launch files of several kernels in order: what such a file is, the checks in
--- their order, and what each gives.
-use Rattle.std.specs.Prelude.{◌≡◌, ℕ, suc, ◌==◌, ◌&&◌, ◌⊎◌, Bool, true, IsTrue, List, [], ◌∷◌, Option, Some, None, option_and_then, Result, Ok, Err, codes, length, map, if◌then◌else◌}
+-- Launch files of several kernels in order: what such a file is and gives, and the checks in
+-- their order.
+use Rattle.std.specs.Prelude.{◌≡◌, ℕ, suc, ◌==◌, ◌&&◌, ◌⊎◌, Bool, true, IsTrue, List, [], ◌∷◌, Option, Some, None, option_and_then, Result, Ok, Err, codes, length, if◌then◌else◌}
 use Rattle.std.specs.Option.{ok_or}
 use Rattle.serde_json.specs.Data.{Data, Items, no_items, item, array}
 use Rattle.serde_json.specs.Find.{get, as_array}
-use Rattle.kernel_tree.specs.Launch.{in_a_row}
 use Rattle.kernel_tree.specs.Schedule.{Schedule}
 use Rattle.size_arith.specs.Ranges.{Admissible, sizes_at}
 use Rattle.lift_tree.specs.Launches.{IsAdmissibleLaunch}
@@ -17,7 +16,7 @@ use Rattle.launch_file.specs.declared.refusal.Key.TheVariants as key
 use Rattle.launch_file.specs.declared.refusal.LaunchNo.{LaunchNo}
 use Rattle.launch_file.specs.declared.refusal.LaunchNo.TheVariants as no
 use Rattle.launch_file.specs.Json.{IsJson, is_object, object_at, whole_at}
-use Rattle.launch_file.specs.LaunchFile.{Given, GivesInputs, GivesSizes, IsSchedule, StandsAt, asks_in}
+use Rattle.launch_file.specs.LaunchFile.{GivesInputs, GivesSizes, IsSchedule, StandsAt, asks_in}
 use Rattle.launch_file.specs.Judged.{and_then, bases_of, demand, inputs_judged, items_judged, schedule_at, sizes_judged}
 
 -- ---- what such a file is
@@ -34,14 +33,10 @@ pub record Count : Type 0 where
   pub global : ℕ
   pub local : ℕ
 
--- a kernel's launch of so many work-items in a row, with what all kernels share
-abbrev pub launched : Shared → Count → Given
-launched s c = record {
-  launch = in_a_row c.global c.local s.sizes;
-  bases = s.bases;
-  inputs = s.inputs;
-  schedule = s.schedule;
-}
+-- what such a file gives: once what all kernels share, and each kernel's work-items
+pub record GivenInOrder : Type 0 where
+  pub shared : Shared
+  pub counts : List Count
 
 -- the sizes, the inputs and the schedule that a file gives to all kernels
 pub record GivesShared (p : PlainProgram) (d : Data) (s : Shared) : Type 0 where
@@ -55,39 +50,37 @@ pub record GivesShared (p : PlainProgram) (d : Data) (s : Shared) : Type 0 where
   pub typed : HaveTypes s.bases (declared_by p).inputs s.inputs
 
 -- a kernel's own object gives how many work-items it has, and these may run it
-pub record GivesStage (p : PlainProgram) (s : Shared) (ask : Ask) (own : Data)
-    (g : Given) : Type 0 where
+pub record GivesCount (p : PlainProgram) (s : Shared) (ask : Ask) (own : Data)
+    (c : Count) : Type 0 where
   pub object : IsTrue (is_object own)
-  pub count : Count
-  pub global : StandsAt (codes "global") own count.global
-  pub local : StandsAt (codes "local") own count.local
+  pub global : StandsAt (codes "global") own c.global
+  pub local : StandsAt (codes "local") own c.local
   pub admissible : IsAdmissibleLaunch (declared_by p).names
-      (asks_in ask) s.bases count.global count.local
-  pub launch : g ≡ launched s count
+      (asks_in ask) s.bases c.global c.local
 
 -- one object a kernel, in order
-abbrev pub GiveStages : PlainProgram → Shared → List Ask → List Data → List Given → Type 0
-GiveStages p s [] [] [] = Unit {0}
-GiveStages p s (ask ∷ asks) (own ∷ owns) (g ∷ gs) =
-    GivesStage p s ask own g × GiveStages p s asks owns gs
-GiveStages p s _ _ _ = ⊥
+abbrev pub GiveCounts : PlainProgram → Shared → List Ask → List Data → List Count → Type 0
+GiveCounts p s [] [] [] = Unit {0}
+GiveCounts p s (ask ∷ asks) (own ∷ owns) (c ∷ cs) =
+    GivesCount p s ask own c × GiveCounts p s asks owns cs
+GiveCounts p s _ _ _ = ⊥
 
 -- a list's members
 abbrev pub members : Items → List Data
 members no_items = []
 members (item d ds) = d ∷ members ds
 
--- A value is a launch file of kernels in order, and this is what it gives to each.
-pub record GivesAll (p : PlainProgram) (asks : List Ask) (d : Data) (gs : List Given) : Type 0 where
+-- A value is a launch file of kernels in order, and this is what it gives.
+pub record GivesAll (p : PlainProgram) (asks : List Ask) (d : Data)
+    (g : GivenInOrder) : Type 0 where
   pub object : IsTrue (is_object d)
-  pub shared : Shared
-  pub gives : GivesShared p d shared
+  pub shared : GivesShared p d g.shared
   pub launches : (ds : Items) × (get (codes "launches") d ≡ Some (array ds))
-      × GiveStages p shared asks (members ds) gs
+      × GiveCounts p g.shared asks (members ds) g.counts
 
 -- the bytes are a launch file of kernels in order
-abbrev pub IsStagesFile : PlainProgram → List Ask → List ℕ → List Given → Type 0
-IsStagesFile p asks bytes gs = (d : Data) × IsJson bytes d × GivesAll p asks d gs
+abbrev pub IsStagesFile : PlainProgram → List Ask → List ℕ → GivenInOrder → Type 0
+IsStagesFile p asks bytes g = (d : Data) × IsJson bytes d × GivesAll p asks d g
 
 -- ---- the checks in their order
 
@@ -143,28 +136,15 @@ abbrev pub shared_given : PlainProgram → (sizes : List ℕ) → Schedule → (
 shared_given p sizes schedule inputs =
     record { sizes = sizes; bases = bases_of p.sizes sizes; inputs = inputs; schedule = schedule }
 
--- what the file gives to a kernel of so many work-items, or the first input that it lacks
-abbrev pub stage_file_judged : PlainProgram → (sizes : List ℕ) → StageKeys → Count
-    → Result Given LaunchNo
-stage_file_judged p sizes at c =
-    and_then (inputs_judged sizes 0 p.inputs at.inputs)
-    (λ inputs. Ok (launched (shared_given p sizes at.schedule inputs) c))
-
--- what the file gives to kernels of so many work-items, or the first input that it lacks
-abbrev pub files_judged : PlainProgram → (sizes : List ℕ) → StageKeys → List Count
-    → Result (List Given) LaunchNo
-files_judged p sizes at counts =
-    and_then (inputs_judged sizes 0 p.inputs at.inputs)
-    (λ inputs. Ok (map (launched (shared_given p sizes at.schedule inputs)) counts))
-
--- what such a file gives to each kernel, or the first check that it fails
-abbrev pub stages_judged : PlainProgram → List Ask → Data → Result (List Given) LaunchNo
+-- what such a file gives, or the first check that it fails
+abbrev pub stages_judged : PlainProgram → List Ask → Data → Result GivenInOrder LaunchNo
 stages_judged p asks d =
     and_then (demand (is_object d) no.NotJson) (λ _.
     and_then (stage_keys_judged (length asks) d) (λ at.
     and_then (sizes_judged 0 p.sizes at.sizes) (λ sizes.
     and_then (stages_judged_from 0 asks at.launches) (λ counts.
-    files_judged p sizes at counts))))
+    and_then (inputs_judged sizes 0 p.inputs at.inputs) (λ inputs.
+    Ok (record { shared = shared_given p sizes at.schedule inputs; counts = counts }))))))
 
 -- what the bytes are refused for: they are no JSON, or their value fails this check first
 abbrev pub RefusesStages : PlainProgram → List Ask → List ℕ → LaunchNo → Type 0

@@ -1,11 +1,13 @@
 //! Launch files.
 
-ghost use Rattle.std.specs.Prelude.{◌≡◌, ◌≢◌, Err, IfErr, IfOk, Ok};
+ghost use Rattle.std.specs.Prelude.{◌≡◌, ◌≢◌, Err, IfErr, IfOk, Ok, map};
+ghost use Rattle.lift_tree.specs.Values.{value_of};
+ghost use Rattle.launch_file.specs.Inputs.{InputsFit};
 ghost use Rattle.serde_json.specs.View.{view};
 ghost use Rattle.lift_tree.specs.Programs.{program_of};
 ghost use Rattle.lift_tree.specs.Limits.{HasProperInputs};
-ghost use Rattle.launch_file.specs.Judged.{Refuses, and_then, is_asked_size, is_enough, items_judged, judged};
-ghost use Rattle.launch_file.specs.LaunchFile.{IsLaunchFile, given_by};
+ghost use Rattle.launch_file.specs.Judged.{Refuses, and_then, inputs_judged, is_asked_size, is_enough, items_judged, judged};
+ghost use Rattle.launch_file.specs.LaunchFile.{IsLaunchFile, asked_inputs, given_by};
 ghost use Rattle.launch_file.specs.declared.refusal.LaunchNo.TheVariants.{Memory};
 
 use crate::json::discard;
@@ -29,6 +31,9 @@ pub enum Ask {
     /// To evaluate the program: how many work-items there are, and in which order they run, is
     /// passed over.
     Eval,
+    /// To tell what a run of a kernel costs, for which `task` and `local` say the same: the inputs
+    /// and the schedule are passed over.
+    Cost { task: bool, local: Option<u32> },
 }
 
 /// A launch of a program with its inputs.
@@ -39,9 +44,9 @@ pub struct LaunchFile {
     pub launch: Launch,
     /// The declared sizes once more, by their base names.
     pub sizes: Sizes,
-    /// One value for each input.
+    /// One value for each input. For a cost there is none.
     pub inputs: Vec<Val>,
-    /// In which order a run takes its events. For an evaluation it is the empty list.
+    /// In which order a run takes its events. For an evaluation and a cost it is the empty list.
     pub schedule: Schedule,
 }
 
@@ -53,8 +58,12 @@ fn is_asked_size(ask: Ask, local: u64) -> bool
         Ask::Run {
             local: Some(size),
             ..
+        }
+        | Ask::Cost {
+            local: Some(size),
+            ..
         } => local == u64::from(size),
-        Ask::Run { local: None, .. } | Ask::Eval => true,
+        Ask::Run { local: None, .. } | Ask::Cost { local: None, .. } | Ask::Eval => true,
     }
 }
 
@@ -63,8 +72,8 @@ fn is_enough(ask: Ask, global: u64) -> bool
     ensures { result ≡ is_enough ask global }
 {
     match ask {
-        Ask::Run { task: true, .. } => global == 1,
-        Ask::Run { task: false, .. } | Ask::Eval => true,
+        Ask::Run { task: true, .. } | Ask::Cost { task: true, .. } => global == 1,
+        Ask::Run { task: false, .. } | Ask::Cost { task: false, .. } | Ask::Eval => true,
     }
 }
 
@@ -88,6 +97,28 @@ pub fn work_items(ask: Ask, global: u64, local: u64) -> Result<(u32, u32), Launc
         return Err(LaunchNo::NotTask { global });
     }
     Ok((global as u32, local as u32))
+}
+
+// The inputs that are read; for a cost none.
+fn asked_inputs(
+    alloc: Global,
+    ask: Ask,
+    sizes: &[u32],
+    program: &Program,
+    value: &Value,
+) -> Result<Vec<Val>, LaunchNo>
+    requires { InputsFit sizes.now (program_of program.now).inputs }
+    ensures ok { let judged = inputs_judged sizes.now 0
+        (asked_inputs ask (program_of program.now).inputs) (view value.now) in
+        IfOk result (λ vs. judged ≡ Ok (map value_of vs.items)) }
+    ensures refused { let judged = inputs_judged sizes.now 0
+        (asked_inputs ask (program_of program.now).inputs) (view value.now) in
+        IfErr result (λ e. e ≢ Memory → judged ≡ Err e) }
+{
+    match ask {
+        Ask::Run { .. } | Ask::Eval => inputs_in(alloc, sizes, &program.inputs, value),
+        Ask::Cost { .. } => Ok(Vec::new(alloc)),
+    }
 }
 
 #[tactic(auto, using(crate::proofs::Whole::ranges_are))]
@@ -116,7 +147,7 @@ fn launch_in(
     } = find_keys(alloc, ask, value)?;
     let given = sizes_in(alloc, &program.sizes, sizes)?;
     let (global, local) = work_items(ask, global, local)?;
-    let inputs = inputs_in(alloc, &given, &program.inputs, inputs)?;
+    let inputs = asked_inputs(alloc, ask, &given, program, inputs)?;
     let sizes = bases_of(alloc, &program.sizes, &given)?;
     let launch = Launch {
         global: (global, 1),
@@ -141,8 +172,9 @@ fn launch_in(
 /// size in turn `Missing`, where it isn't there or is no whole number, and at once `Size`.
 /// `Local`: the work-items are too few or too many, or make up no whole groups, or a group isn't of
 /// the size that is asked for. `NotTask`. For each input in turn `Missing`, where its key isn't
-/// there, and at once `Shape`. For an evaluation `global`, `local` and `schedule` are passed over.
-/// Of two values at one key the last counts. Want of memory may come at any point.
+/// there, and at once `Shape`. For an evaluation `global`, `local` and `schedule` are passed over,
+/// for a cost `inputs` and `schedule`. Of two values at one key the last counts. Want of memory may
+/// come at any point.
 ///
 /// The inputs are those that typing takes: their lengths are shown at least 1, and they have at
 /// most 2147483647 scalars in each component.

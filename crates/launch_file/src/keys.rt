@@ -6,7 +6,7 @@ ghost use Rattle.kernel_tree.specs.Schedule.{schedule_of};
 ghost use Rattle.launch_file.specs.Judged as checks;
 ghost use Rattle.std.specs.Prelude.{codes};
 ghost use Rattle.serde_json.specs.Find.{get};
-ghost use Rattle.launch_file.specs.Judged.{count_judged, keys_judged, schedule_judged};
+ghost use Rattle.launch_file.specs.Judged.{count_judged, holder_judged, keys_judged, schedule_judged};
 ghost use Rattle.launch_file.specs.Shown.{keyed_of};
 ghost use Rattle.launch_file.specs.declared.refusal.LaunchNo.TheVariants.{Memory};
 
@@ -32,7 +32,7 @@ fn count(ask: Ask, value: &Value, key: &str, missing: LaunchNo) -> Result<u64, L
     ensures { result ≡ count_judged ask key.now missing (view value.now) }
 {
     match ask {
-        Ask::Run { .. } => whole_at(value, key).ok_or(missing),
+        Ask::Run { .. } | Ask::Cost { .. } => whole_at(value, key).ok_or(missing),
         Ask::Eval => Ok(1),
     }
 }
@@ -67,7 +67,20 @@ fn schedule(alloc: Global, ask: Ask, value: &Value) -> Result<Schedule, LaunchNo
 {
     match ask {
         Ask::Run { .. } => schedule_at(alloc, value),
-        Ask::Eval => Ok(Schedule::Numbers(Vec::new(alloc))),
+        Ask::Eval | Ask::Cost { .. } => Ok(Schedule::Numbers(Vec::new(alloc))),
+    }
+}
+
+// The object of the inputs; for a cost, which reads none, the value itself.
+fn holder<'v>(ask: Ask, value: &'v Value) -> Result<&'v Value, LaunchNo>
+    ensures ok { IfOk result (λ v. holder_judged ask (view value.entry.now) ≡ Ok (view v.now)) }
+    ensures refused { IfErr result (λ e. holder_judged ask (view value.entry.now) ≡ Err e) }
+{
+    match ask {
+        Ask::Run { .. } | Ask::Eval => {
+            object_at(value, "inputs").ok_or(LaunchNo::Missing(Key::Inputs))
+        }
+        Ask::Cost { .. } => Ok(value),
     }
 }
 
@@ -80,7 +93,7 @@ pub fn find_keys<'v>(alloc: Global, ask: Ask, value: &'v Value) -> Result<Keyed<
     let global = count(ask, value, "global", LaunchNo::Missing(Key::Global))?;
     let local = count(ask, value, "local", LaunchNo::Missing(Key::Local))?;
     let sizes = object_at(value, "sizes").ok_or(LaunchNo::Missing(Key::Sizes))?;
-    let inputs = object_at(value, "inputs").ok_or(LaunchNo::Missing(Key::Inputs))?;
+    let inputs = holder(ask, value)?;
     let schedule = schedule(alloc, ask, value)?;
     Ok(Keyed {
         global,

@@ -2,45 +2,61 @@
 
 ghost use Rattle.std.specs.Prelude.{◌≡◌, ◌≢◌, Err, IfErr, IfOk, Ok, length, map, option_map};
 ghost use Rattle.serde_json.specs.View.{view};
-ghost use Rattle.kernel_tree.specs.Schedule.{schedule_of};
-ghost use Rattle.lift_tree.specs.Programs.{input_of, program_of};
+ghost use Rattle.lift_tree.specs.Programs.{program_of};
 ghost use Rattle.lift_tree.specs.Limits.{HasProperInputs};
-ghost use Rattle.lift_tree.specs.WorkedOut.{range_of};
-ghost use Rattle.size_arith.specs.Ranges.{AreNames};
-ghost use Rattle.launch_file.specs.Inputs.{InputsFit};
-ghost use Rattle.launch_file.specs.Judged.{AllInRange};
-ghost use Rattle.launch_file.specs.LaunchFile.{given_by};
 ghost use Rattle.launch_file.specs.Stages.{
   IsStagesFile,
   RefusesStages,
   all_objects,
-  files_judged,
   launches_at,
-  stage_file_judged,
   stage_judged,
   stage_keys_judged,
   stages_judged,
   stages_judged_from,
 };
-ghost use Rattle.launch_file.specs.StagesShown.{count_of, keys_of, values_in};
+ghost use Rattle.launch_file.specs.StagesShown.{count_of, given_in_order, keys_of, values_in};
 ghost use Rattle.launch_file.specs.declared.refusal.LaunchNo.TheVariants.{Memory};
 
-use crate::file::{Ask, LaunchFile, work_items};
+use crate::file::{Ask, work_items};
 use crate::json::{discard, object_at, whole_at};
 use crate::keys::schedule_at;
 use crate::refusal::{Key, LaunchNo};
 use crate::sizes::{bases_of, sizes_in};
 use crate::values::inputs_in;
-use kernel_tree::launches::{Launch, Schedule};
+use kernel_tree::launches::Schedule;
 use lift_tree::program::Program;
+use lift_tree::value::Val;
 use serde_json::{Category, Value};
-use std::alloc::{AllocError, Global};
+use size_arith::Sizes;
+use std::alloc::Global;
 
-// The work-items of a kernel, in all and in a group.
+/// The work-items of a kernel, in all and in a group, which lie in one row.
 #[derive(Clone, Copy)]
-struct Count {
-    global: u32,
-    local: u32,
+pub struct Count {
+    pub global: u32,
+    pub local: u32,
+}
+
+/// What all kernels of a program in order share.
+#[derive(Drop)]
+pub struct Shared {
+    /// Each declared size.
+    pub sizes: Vec<u32>,
+    /// The declared sizes once more, by their base names.
+    pub bases: Sizes,
+    /// One value for each input of the program.
+    pub inputs: Vec<Val>,
+    /// In which order a run takes its events. Each kernel's run begins it anew.
+    pub schedule: Schedule,
+}
+
+/// What a launch file gives to the kernels of a program in order.
+#[derive(Drop)]
+pub struct StagesFile {
+    /// Once what all of them share.
+    pub shared: Shared,
+    /// Each kernel's work-items, in the order of the kernels.
+    pub counts: Vec<Count>,
 }
 
 // What stands at the keys: the kernels' own objects, and what all kernels share.
@@ -124,98 +140,45 @@ fn stages_in(alloc: Global, asks: &[Ask], values: &[Value]) -> Result<Vec<Count>
     Ok(counts)
 }
 
-// An equal schedule in memory of its own.
-fn copied(alloc: Global, schedule: &Schedule) -> Result<Schedule, AllocError>
-    ensures { IfOk result (λ s. schedule_of s ≡ schedule_of schedule.now) }
-{
-    match schedule {
-        Schedule::Numbers(numbers) => Ok(Schedule::Numbers(Vec::from_slice(alloc, numbers)?)),
-        Schedule::Seed(seed) => Ok(Schedule::Seed(*seed)),
-    }
-}
-
-// A kernel's launch at these sizes, with the inputs and the schedule that all kernels share.
-fn stage_file(
-    alloc: Global,
-    program: &Program,
-    given: &[u32],
-    keys: &StageKeys<'_>,
-    count: Count,
-) -> Result<LaunchFile, LaunchNo>
-    requires names { AreNames (map range_of program.now.sizes.items) }
-    requires ranges { AllInRange program.now.sizes.items given.now }
-    requires lengths { InputsFit given.now (map input_of program.now.inputs.items) }
-    ensures ok { let judged =
-        stage_file_judged (program_of program.now) given.now (keys_of keys.now) (count_of count) in
-        IfOk result (λ f. judged ≡ Ok (given_by f)) }
-    ensures refused { let judged =
-        stage_file_judged (program_of program.now) given.now (keys_of keys.now) (count_of count) in
-        IfErr result (λ e. e ≢ Memory → judged ≡ Err e) }
-{
-    let inputs = inputs_in(alloc, given, &program.inputs, keys.inputs)?;
-    Ok(LaunchFile {
-        launch: Launch {
-            global: (count.global, 1),
-            local: (count.local, 1),
-            sizes: Vec::from_slice(alloc, given)?,
-        },
-        sizes: bases_of(alloc, &program.sizes, given)?,
-        inputs,
-        schedule: copied(alloc, &keys.schedule)?,
-    })
-}
-
-// The launch of each kernel. Inputs are read before, and once more for each: a value has one owner.
-fn stage_files(
-    alloc: Global,
-    program: &Program,
-    given: &[u32],
-    keys: &StageKeys<'_>,
-    counts: &[Count],
-) -> Result<Vec<LaunchFile>, LaunchNo>
-    requires names { AreNames (map range_of program.now.sizes.items) }
-    requires ranges { AllInRange program.now.sizes.items given.now }
-    requires lengths { InputsFit given.now (map input_of program.now.inputs.items) }
-    ensures ok { let judged = files_judged (program_of program.now) given.now (keys_of keys.now)
-        (map count_of counts.now) in
-        IfOk result (λ fs. judged ≡ Ok (map given_by fs.items)) }
-    ensures refused { let judged = files_judged (program_of program.now) given.now
-        (keys_of keys.now) (map count_of counts.now) in
-        IfErr result (λ e. e ≢ Memory → judged ≡ Err e) }
-{
-    inputs_in(alloc, given, &program.inputs, keys.inputs)?;
-    let mut files = Vec::new(alloc);
-    for count in counts {
-        files.push(stage_file(alloc, program, given, keys, *count)?)?;
-    }
-    Ok(files)
-}
-
-// What the value gives to each kernel.
+// What the value gives.
 #[tactic(auto, using(crate::proofs::Whole::ranges_are))]
 fn stages_of(
     alloc: Global,
     value: &Value,
     program: &Program,
     asks: &[Ask],
-) -> Result<Vec<LaunchFile>, LaunchNo>
+) -> Result<StagesFile, LaunchNo>
     requires { HasProperInputs (program_of program.now) }
     ensures ok { let judged = stages_judged (program_of program.now) asks.now (view value.now) in
-        IfOk result (λ fs. judged ≡ Ok (map given_by fs.items)) }
+        IfOk result (λ f. judged ≡ Ok (given_in_order f)) }
     ensures refused { let judged = stages_judged (program_of program.now) asks.now (view value.now) in
         IfErr result (λ e. e ≢ Memory → judged ≡ Err e) }
 {
     if !value.is_object() {
         return Err(LaunchNo::NotJson);
     }
-    let keys = find_stage_keys(alloc, asks.len(), value)?;
-    let given = sizes_in(alloc, &program.sizes, keys.sizes)?;
-    let counts = stages_in(alloc, asks, keys.launches)?;
-    stage_files(alloc, program, &given, &keys, &counts)
+    let StageKeys {
+        launches,
+        sizes,
+        inputs,
+        schedule,
+    } = find_stage_keys(alloc, asks.len(), value)?;
+    let given = sizes_in(alloc, &program.sizes, sizes)?;
+    let counts = stages_in(alloc, asks, launches)?;
+    let inputs = inputs_in(alloc, &given, &program.inputs, inputs)?;
+    let bases = bases_of(alloc, &program.sizes, &given)?;
+    let shared = Shared {
+        sizes: given,
+        bases,
+        inputs,
+        schedule,
+    };
+    Ok(StagesFile { shared, counts })
 }
 
 /// The launch file that the bytes are for the kernels of a program in order: for each an admissible
-/// launch, and for all the inputs, of their types, and the schedule, which each begins anew.
+/// launch, and for all of them once the sizes, the inputs, of their types, and the schedule, which
+/// each begins anew.
 ///
 /// The checks are those of `read_launch`, in its order, but for these.
 /// `Missing(launches)` stands in place of `global` and `local`: the list isn't there, or
@@ -231,18 +194,18 @@ pub fn read_stages(
     bytes: &[u8],
     program: &Program,
     asks: &[Ask],
-) -> Result<Vec<LaunchFile>, LaunchNo>
+) -> Result<StagesFile, LaunchNo>
     requires { HasProperInputs (program_of program.now) }
-    ensures ok { IfOk result (λ fs.
-        IsStagesFile (program_of program.now) asks.now bytes.now (map given_by fs.items)) }
+    ensures ok { IfOk result (λ f.
+        IsStagesFile (program_of program.now) asks.now bytes.now (given_in_order f)) }
     ensures refused { IfErr result (λ e. e ≢ Memory
         → RefusesStages (program_of program.now) asks.now bytes.now e) }
 {
     match Value::from_slice(alloc, bytes) {
         Ok(value) => {
-            let files = stages_of(alloc, &value, program, asks);
+            let file = stages_of(alloc, &value, program, asks);
             discard(value);
-            files
+            file
         }
         Err(error) if error.classify() == Category::Memory => Err(LaunchNo::Memory),
         Err(_) => Err(LaunchNo::NotJson),

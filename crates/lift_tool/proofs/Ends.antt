@@ -13,7 +13,7 @@ use Rattle.kernel_sequence.specs.declared.no.CutNo.TheVariants as cuts
 use Rattle.thread_mapping.specs.declared.judging.NestNo.TheVariants as nests
 use Rattle.buffer_allocation.specs.declared.buffers.AllocNo.TheVariants as allocations
 use Rattle.launch_file.specs.LaunchFile.{Given, IsLaunchFile}
-use Rattle.launch_file.specs.Stages.{IsStagesFile}
+use Rattle.launch_file.specs.Stages.{GivenInOrder, IsStagesFile}
 use Rattle.launch_file.specs.declared.file.Ask.TheVariants as asks
 use Rattle.launch_file.specs.declared.refusal.LaunchNo.{LaunchNo}
 use Rattle.launch_file.specs.declared.refusal.LaunchNo.TheVariants as no
@@ -25,7 +25,7 @@ use Rattle.compilation.specs.Sequence.{Outline}
 use Rattle.program_runs.specs.Started.{asks_in_order}
 use Rattle.program_runs.specs.Table.{StagesEndOnce, Stops, Takes, Writes, stages_of, text_at}
 use Rattle.program_runs.specs.declared.command.Command.{Command}
-use Rattle.program_runs.specs.declared.command.Command.TheVariants.{Compile, Run, Eval, Steps, Stages, RunStages, Demo}
+use Rattle.program_runs.specs.declared.command.Command.TheVariants.{Compile, Run, Cost, Eval, Steps, Stages, RunStages, Demo}
 use Rattle.lift_tool.specs.Files.{AllTold, AreTexts, File, HasText, IsUnread, NoneRose, StopsAtFile, Told}
 use Rattle.lift_tool.specs.Outcome.{Answers, IsAccepted, OnTexts, StopsAtText, StopsFor, WordsCause}
 use Rattle.lift_tool.specs.Request.{command_of, files_of}
@@ -48,18 +48,19 @@ as_asked p a b o q launch g alone local is = subst (λ x. IsLaunchFile p (asks.R
 
 -- that of what is asked for kernels in order
 all_asked :
-    (p : PlainProgram) (os qs : List Outline) (o q : Option ℕ) (launch : List ℕ) (gs : List Given) → os ≡ qs → o ≡ q → IsStagesFile p (asks_in_order qs o) launch gs
-    → IsStagesFile p (asks_in_order os q) launch gs
-all_asked p os qs o q launch gs outlined local is = subst (λ x. IsStagesFile p (asks_in_order os x) launch gs) local (subst (λ x. IsStagesFile p (asks_in_order x o) launch gs) (sym outlined) is)
+    (p : PlainProgram) (os qs : List Outline) (o q : Option ℕ) (launch : List ℕ) (g : GivenInOrder) → os ≡ qs → o ≡ q → IsStagesFile p (asks_in_order qs o) launch g
+    → IsStagesFile p (asks_in_order os q) launch g
+all_asked p os qs o q launch g outlined local is = subst (λ x. IsStagesFile p (asks_in_order os x) launch g) local (subst (λ x. IsStagesFile p (asks_in_order x o) launch g) (sym outlined) is)
 
 -- what was written was accepted
 written_accepted : (command : Command) (texts : List (List ℕ)) (text : List ℕ) → Writes command texts text → Takes command texts
 written_accepted Compile texts text h = let c = h.compiled in (h.source, c.read.is, c.read.within, (tt, (c.last, c.legal)))
 written_accepted (Run traced) texts text h = let c = h.compiled in (h.source, c.read.is, c.read.within, (tt, (h.given, (c.last, c.legal, as_asked h.source _ _ _ _ _ h.given (ap (λ (x : launches.Asks). x.alone) c.asked) (ap (λ (x : launches.Asks). x.local) c.asked) h.launch_file))))
+written_accepted (Cost items) texts text h = (h.source, h.read.is, h.read.within, (tt, (h.given, (h.last, h.legal, h.launch_file))))
 written_accepted Eval texts text h = (h.source, h.read.is, h.read.within, (tt, (h.given, h.started)))
 written_accepted Steps texts text h = (h.source, h.read.is, h.read.within, (tt, (h.terms, h.made)))
 written_accepted Stages texts text h = let c = h.compiled in (h.source, c.read.is, c.read.within, (tt, (c.parts, c.compiled)))
-written_accepted RunStages texts text h = let c = h.compiled in (h.source, c.read.is, c.read.within, (tt, (h.givens, (c.parts, c.compiled, all_asked h.source _ _ _ _ _ h.givens c.outlined c.fixed h.launch_file))))
+written_accepted RunStages texts text h = let c = h.compiled in (h.source, c.read.is, c.read.within, (tt, (h.given, (c.parts, c.compiled, all_asked h.source _ _ _ _ _ h.given c.outlined c.fixed h.launch_file))))
 written_accepted (Demo seed) texts text h = tt
 
 -- ---- files
@@ -177,6 +178,8 @@ stage_status : (command : Command) (texts : List (List ℕ)) (p : PlainProgram) 
 stage_status Compile texts p f (why, h, e) = source_is f why e
 stage_status (Run traced) texts p f (inl (why, h, e)) = source_is f why e
 stage_status (Run traced) texts p f (inr (last, is, (why, h, e))) = launch_is f p why e
+stage_status (Cost items) texts p f (inl (why, h, e)) = source_is f why e
+stage_status (Cost items) texts p f (inr (last, is, (why, h, e))) = launch_is f p why e
 stage_status Eval texts p f (inl (why, h, e)) = source_is f why e
 stage_status Eval texts p f (inr (types, is, (why, h, e))) = launch_is f p why e
 stage_status Steps texts p f (why, h, e) = source_is f why e

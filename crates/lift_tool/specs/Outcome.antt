@@ -1,8 +1,9 @@
 -- How a call ends, and why.
 use Rattle.std.specs.Prelude.{◌≡◌, ◌⊎◌, ℕ, List}
-use Rattle.command_line.specs.Requests.{Asks, CommandLine, IsRefused, run}
+use Rattle.command_line.specs.Requests.{Asks, CommandLine, IsRefused, cost, run}
 use Rattle.fault_lines.specs.Failure.{Failure, Memory, Words, Write}
 use Rattle.program_runs.specs.Alike.{AreLinesOf}
+use Rattle.program_runs.specs.Costs.{AreCostsOf}
 use Rattle.program_runs.specs.Table.{IsKernelOf, Stops, Takes, Writes, text_at}
 use Rattle.lift_tool.specs.Files.{AreTexts, StopsAtFile, Told}
 use Rattle.lift_tool.specs.Request.{command_of, files_of}
@@ -11,11 +12,15 @@ use Rattle.lift_tool.specs.Request.{command_of, files_of}
 abbrev pub Answers : CommandLine → List (List ℕ) → List ℕ → Type 0
 Answers request texts text = Writes (command_of request) texts text
 
--- the lines of a run are those of each text that is written for the same files
+-- the lines of a run are those of each text that is written for the same files, and those of a cost
+-- tell what its runs do
 abbrev pub AreLinesOfWritten : CommandLine → List (List ℕ) → (lines : List ℕ) → Type 0
 AreLinesOfWritten (run p s l traced) texts lines =
     (text : List ℕ) → IsKernelOf (text_at texts 0) (text_at texts 1) text
     → AreLinesOf (text_at texts 0) (text_at texts 2) traced text lines
+AreLinesOfWritten (cost p s l items) texts lines =
+    (text : List ℕ) → IsKernelOf (text_at texts 0) (text_at texts 1) text
+    → AreCostsOf (text_at texts 0) (text_at texts 2) items text lines
 AreLinesOfWritten _ texts lines = Unit {0}
 
 -- the words ask for this, and its files may have texts that are so

@@ -1,8 +1,8 @@
 -- The command and the files of a request.
 use Rattle.std.specs.Prelude.{ℕ, List, [], ◌∷◌, string_bytes}
-use Rattle.command_line.specs.Requests.{CommandLine, compile, run, eval, steps, stages, run_stages, demo}
+use Rattle.command_line.specs.Requests.{CommandLine, compile, run, cost, eval, steps, stages, run_stages, demo}
 use Rattle.program_runs.specs.declared.command.Command.{Command}
-use Rattle.program_runs.specs.declared.command.Command.TheVariants.{Compile, Run, Eval, Steps, Stages, RunStages, Demo}
+use Rattle.program_runs.specs.declared.command.Command.TheVariants.{Compile, Run, Cost, Eval, Steps, Stages, RunStages, Demo}
 use Rattle.lift_tool.specs.declared.files.File.{File}
 use Rattle.lift_tool.specs.declared.files.File.TheVariants.{Source, Launch}
 
@@ -31,6 +31,7 @@ launched p s l = (p, source_limit) ∷ (s, source_limit) ∷ (l, launch_limit) �
 abbrev pub files_of : CommandLine → List (List ℕ × ℕ)
 files_of (compile p s) = sources p s
 files_of (run p s l traced) = launched p s l
+files_of (cost p s l items) = launched p s l
 files_of (eval p l) = (p, source_limit) ∷ (l, launch_limit) ∷ []
 files_of (steps p s) = sources p s
 files_of (stages p s) = sources p s
@@ -41,6 +42,7 @@ files_of (demo x) = []
 abbrev pub command_of : CommandLine → Command
 command_of (compile p s) = Compile
 command_of (run p s l traced) = Run traced
+command_of (cost p s l items) = Cost items
 command_of (eval p l) = Eval
 command_of (steps p s) = Steps
 command_of (stages p s) = Stages

@@ -41,10 +41,11 @@ mod requests;
 use command_line::read_words;
 pub use compilation::{Compiled, CompiledSequence, compile_sequence, compile_text};
 use fault_lines::Failure;
+pub use fault_lines::Refusal;
 pub use files::{LAUNCH_LIMIT, SOURCE_LIMIT};
 use lift_io::{Files, Sink, write_whole};
 pub use program_runs::run_launch;
-use program_runs::{one_end, texts_run_alike};
+use program_runs::{one_end, texts_have_costs, texts_run_alike};
 pub use program_source::{source_terms, steps_text};
 use requests::answer_of;
 use std::alloc::Global;
@@ -94,15 +95,16 @@ pub fn lift_tool<F: Files, O: Sink, E: Sink>(
     err: &mut E,
 ) -> u8
     // At 0 the output took just the text of the kernel or of the kernels in order, the lines of the
-    // terms, the lines of the run, the result line of the runs in order or of the source value, or
-    // the line of the demo, and nothing went to `err`.
+    // terms, of the run or of the cost, the result line of the runs in order or of the source
+    // value, or the line of the demo, and nothing went to `err`.
     ensures done { result ≡ 0
         → OnTexts (F.told files.old) (map string_bytes words.now) (λ request texts.
         (text : List ℕ) × Answers request texts text
         × Appends (O.taken out.old) (O.taken out.new) text)
         × (err.new ≡ err.old) }
 
-    // The lines of a run are those of the text that `compile` writes for the same files.
+    // The lines of a run are those of the text that `compile` writes for the same files, and those
+    // of a cost tell the loads, stores and releases of each of its runs that can't go on.
     ensures alike { result ≡ 0
         → OnTexts (F.told files.old) (map string_bytes words.now) (λ request texts.
         (lines : List ℕ) × AreLinesOfWritten request texts lines
@@ -165,6 +167,7 @@ pub fn lift_tool<F: Files, O: Sink, E: Sink>(
         → (result ≡ 0) ⊎ ((result ≡ 4) ⊎ (result ≡ 13)) }
 {
     one_end();
+    texts_have_costs();
     texts_run_alike();
     match answer(alloc, words, files) {
         Ok(text) => match write_whole(out, text.as_slice()) {

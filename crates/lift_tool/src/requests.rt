@@ -60,6 +60,15 @@ fn parted(alloc: Global, request: Request) -> Result<(Command, Vec<File>), Alloc
             Command::Run { trace },
             launched(alloc, program, script, launch)?,
         )),
+        Request::Cost {
+            program,
+            script,
+            launch,
+            items,
+        } => Ok((
+            Command::Cost { items },
+            launched(alloc, program, script, launch)?,
+        )),
         Request::Eval { program, launch } => {
             let files = [File::Source(program), File::Launch(launch)];
             Ok((Command::Eval, Vec::from_array(alloc, files)?))

@@ -1,7 +1,8 @@
 -- The machine at the start of a run, and what it gives out at the end.
 use Rattle.std.proofs.Common.{◌≡◌, ℕ, ◌<◌, zero, suc, List, [], ◌∷◌, length, Some, None, Bool, true, false, refl, sym, ap, ◌∙◌, subst, arith, length-append}
 use Rattle.std.specs.Global.{Global}
-use Rattle.std.specs.Prelude.{Vec, map, is_some, nat_lt, replicate, slice_get, slice_index, ◌==◌, if◌then◌else◌}
+use Rattle.std.specs.Prelude.{Vec, map, is_some, nat_lt, replicate, slice_get, slice_index, ◌==◌, ◌&&◌, if◌then◌else◌}
+use Rattle.std.proofs.lemmas.Bool.{lt-ltb}
 use Rattle.std.proofs.lemmas.List.{append-nil, length-map, length-replicate}
 use Rattle.kernel_tree.specs.Formula.{Vars}
 use Rattle.kernel_tree.specs.Grammar.{is_kernel}
@@ -13,7 +14,8 @@ use Rattle.race_marks.specs.Marked.{MarksTell}
 use Rattle.ndrange_machine.specs.declared.machine.Machine.{Machine}
 use Rattle.ndrange_machine.specs.Changes.{filled, start_view}
 use Rattle.ndrange_machine.specs.ItemView.{ItemView}
-use Rattle.ndrange_machine.specs.Memory.{held, held_at, homes, cell_in, rows_at, rows_of}
+use Rattle.ndrange_machine.specs.Memory.{held, held_at, homes, cell_in, rows_of}
+use Rattle.ndrange_machine.specs.Words.{Words, word_at, AreFilled}
 use Rattle.ndrange_machine.specs.Lines.{lines_at, size, depth, IsAt}
 use Rattle.ndrange_machine.specs.Wants.{text_of}
 use Rattle.ndrange_machine.specs.Stands.{HoldsItem, Holds, StandsFor, AreOutputs}
@@ -21,8 +23,7 @@ use Rattle.ndrange_machine.specs.Takes.{SameCore}
 use Rattle.ndrange_machine.specs.Groups.{Begins}
 use Rattle.ndrange_machine.proofs.Stepping.{same_holds}
 use Rattle.ndrange_machine.proofs.Together.{alike_calm}
-use Rattle.ndrange_machine.proofs.Rows.{cell_is, is_some-get, get_is, index_is, same_bound, get_replicate, length_row, word_in_row}
-use Rattle.ndrange_machine.proofs.Cells.{Rows, no_cell}
+use Rattle.ndrange_machine.proofs.Rows.{cell_is, is_some-get, get_is, index_is, same_bound, get_replicate}
 
 at_start : (code : Code) (vars : Vars) → IsAt (lines_at 0 code) 0 (item code [] vars)
 at_start code vars = record { end = size code; counts = omega arith; from = sym (append-nil (lines_at 0 code)); loops = tt }
@@ -30,40 +31,37 @@ at_start code vars = record { end = size code; counts = omega arith; from = sym 
 item_at_start : (code : Code) (variables vectors word : ℕ) → HoldsItem (lines_at 0 code) (start_view (depth code) variables vectors word) (item code [] (filled variables vectors word))
 item_at_start code variables vectors word = record { place = at_start code (filled variables vectors word); turns = refl; numbered = tt; room = omega arith; rooms = tt }
 
--- rows that are the same at each home
-rows_are : (all : List Rows) (count : ℕ) (rows : List (List ℕ)) → map (λ r. rows_of r.items) all ≡ replicate count rows → (h : ℕ) → h < count → rows_of (rows_at all h) ≡ rows
-rows_are [] zero rows e h lt = absurd (omega arith)
-rows_are [] (suc count) rows e h lt = cc
-rows_are (r ∷ all) zero rows e h lt = absurd (omega arith)
-rows_are (r ∷ all) (suc count) rows e zero lt = cc
-rows_are (r ∷ all) (suc count) rows e (suc h) lt = rows_are all count rows (cc) h (omega arith)
+-- a cell that is there where the test holds, with the word
+is_some_if : (b : Bool) (w : ℕ) → is_some (if b then Some w else None) ≡ b
+is_some_if true w = refl
+is_some_if false w = refl
 
-words_are : (all : List Rows) (count w : ℕ) (ns : List ℕ) → map (λ r. rows_of r.items) all ≡ replicate count (map (λ n. replicate n w) ns) → (h a i x : ℕ) → cell_in (rows_at all h) a i ≡ Some x → w ≡ x
-words_are [] count w ns e h a i x q = let n : None ≡ Some x = sym (no_cell a i) ∙ q in cc
-words_are (r ∷ all) zero w ns e h a i x q = cc
-words_are (r ∷ all) (suc count) w ns e zero a i x q =
-    let same : rows_of r.items ≡ map (λ n. replicate n w) ns = cc in
-    word_in_row ns w a i x (ap (λ z. slice_get (row z a) i) (sym same) ∙ sym (cell_is r.items a i) ∙ q)
-words_are (r ∷ all) (suc count) w ns e (suc h) a i x q = words_are all count w ns (cc) h a i x q
+word_if : (b : Bool) (w x : ℕ) → (if b then Some w else None) ≡ Some x → w ≡ x
+word_if true w x e = cc
+word_if false w x e = cc
 
 module _ (k : Kernel) (l : Launch) (c : Cells) (m : Machine) (ins : rows_of m.memory.ins.items ≡ c.ins) (outs : rows_of m.memory.outs.items ≡ c.outs)
-    (locals : map (λ r. rows_of r.items) m.memory.locals.items ≡ replicate (group_count l) (map (λ n. replicate n c.rest) k.locals))
-    (privates : map (λ r. rows_of r.items) m.memory.privates.items ≡ replicate (item_count l) (map (λ n. replicate n c.rest) k.privates)) where
+    (locals : AreFilled m.memory.locals (group_count l) k.locals c.rest)
+    (privates : AreFilled m.memory.privates (item_count l) k.privates c.rest) where
   row_there : (rows : List (Vec ℕ Global)) (cs : List (List ℕ)) → rows_of rows ≡ cs → (a i : ℕ) → is_some (cell_in rows a i) ≡ nat_lt i (length (row cs a))
   row_there rows cs e a i = ap is_some (cell_is rows a i ∙ ap (λ z. slice_get (row z a) i) e) ∙ is_some-get (row cs a) i
 
   row_holds : (rows : List (Vec ℕ Global)) (cs : List (List ℕ)) → rows_of rows ≡ cs → (a i x : ℕ) → cell_in rows a i ≡ Some x → slice_index (row cs a) i ≡ x
   row_holds rows cs e a i x h = index_is (row cs a) i x (sym (cell_is rows a i ∙ ap (λ z. slice_get (row z a) i) e) ∙ h)
 
-  own_there : (all : List Rows) (count : ℕ) (ns : List ℕ) → map (λ r. rows_of r.items) all ≡ replicate count (map (λ n. replicate n c.rest) ns) → (h a i : ℕ) → h < count → is_some (cell_in (rows_at all h) a i) ≡ nat_lt i (slice_index ns a)
-  own_there all count ns e h a i lt =
-      row_there (rows_at all h) (map (λ n. replicate n c.rest) ns) (rows_are all count (map (λ n. replicate n c.rest) ns) e h lt) a i ∙ ap (nat_lt i) (length_row ns c.rest a)
+  own_there : (v : Words) (count : ℕ) (ns : List ℕ) → AreFilled v count ns c.rest → (h a i : ℕ) → h < count → is_some (word_at v h a i) ≡ nat_lt i (slice_index ns a)
+  own_there v count ns filled h a i lt =
+      ap is_some (filled h a i) ∙ is_some_if (nat_lt h count && nat_lt i (slice_index ns a)) c.rest
+      ∙ ap (λ b. b && nat_lt i (slice_index ns a)) (lt-ltb h count lt)
+
+  own_word : (v : Words) (count : ℕ) (ns : List ℕ) → AreFilled v count ns c.rest → (h a i x : ℕ) → word_at v h a i ≡ Some x → c.rest ≡ x
+  own_word v count ns filled h a i x e = word_if (nat_lt h count && nat_lt i (slice_index ns a)) c.rest x (sym (filled h a i) ∙ e)
 
   there : (a : Array) (h i : ℕ) → h < homes l a → is_some (held m.memory (record { array = a; home = h; index = i })) ≡ nat_lt i (length_in k c a)
   there (Input a) h i lt = let z : h ≡ 0 = omega arith in ap (λ n. is_some (if n == 0 then cell_in m.memory.ins.items a i else None)) z ∙ row_there m.memory.ins.items c.ins ins a i
   there (Output a) h i lt = let z : h ≡ 0 = omega arith in ap (λ n. is_some (if n == 0 then cell_in m.memory.outs.items a i else None)) z ∙ row_there m.memory.outs.items c.outs outs a i
-  there (Local a) h i lt = own_there m.memory.locals.items (group_count l) k.locals locals h a i lt
-  there (Private a) h i lt = own_there m.memory.privates.items (item_count l) k.privates privates h a i lt
+  there (Local a) h i lt = own_there m.memory.locals (group_count l) k.locals locals h a i lt
+  there (Private a) h i lt = own_there m.memory.privates (item_count l) k.privates privates h a i lt
 
   at_home : (rows : List (Vec ℕ Global)) (h a i x : ℕ) → (if h == 0 then cell_in rows a i else None) ≡ Some x → cell_in rows a i ≡ Some x
   at_home rows h a i x = by_test (h == 0)
@@ -78,8 +76,8 @@ module _ (k : Kernel) (l : Launch) (c : Cells) (m : Machine) (ins : rows_of m.me
       by_array : (a : Array) → held_at m.memory a d.home d.index ≡ Some x → contents c (record { array = a; home = d.home; index = d.index }) ≡ x
       by_array (Input a) h = row_holds m.memory.ins.items c.ins ins a d.index x (at_home m.memory.ins.items d.home a d.index x h)
       by_array (Output a) h = row_holds m.memory.outs.items c.outs outs a d.index x (at_home m.memory.outs.items d.home a d.index x h)
-      by_array (Local a) h = words_are m.memory.locals.items (group_count l) c.rest k.locals locals d.home a d.index x h
-      by_array (Private a) h = words_are m.memory.privates.items (item_count l) c.rest k.privates privates d.home a d.index x h
+      by_array (Local a) h = own_word m.memory.locals (group_count l) k.locals locals d.home a d.index x h
+      by_array (Private a) h = own_word m.memory.privates (item_count l) k.privates privates d.home a d.index x h
 
   pub begun : is_kernel k ≡ true → IsWhole l → map text_of m.lines.items ≡ lines_at 0 k.code → m.launch ≡ l → m.items ≡ replicate (item_count l) (start_view (depth k.code) k.variables k.vectors c.rest) → MarksTell (device_of k l c) (start_state k c) [] m.marks → (n : Machine) → SameCore m n → n.marks ≡ m.marks → Begins m n → StandsFor k l c n []
   begun grammar whole text launch items marks n core same begins = record {

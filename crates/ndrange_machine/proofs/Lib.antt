@@ -6,6 +6,7 @@ pub mod Flat
 pub mod Laying
 pub mod Next
 pub mod Numbers
+pub mod OwnWords
 pub mod Parsing
 pub mod Passing
 pub mod Places

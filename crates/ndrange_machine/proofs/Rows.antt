@@ -1,8 +1,8 @@
 -- Rows of cells, and lists of them.
-use Rattle.std.proofs.Common.{◌≡◌, ◌≢◌, ℕ, ◌<◌, ◌≤◌, zero, suc, List, [], ◌∷◌, length, Option, Some, None, true, false, refl, sym, ap, ◌∙◌, ⊎_elim, arith}
+use Rattle.std.proofs.Common.{◌≡◌, ◌≢◌, ℕ, ◌<◌, zero, suc, List, [], ◌∷◌, length, Option, Some, None, true, false, refl, sym, ap, ◌∙◌, ⊎_elim, arith}
 use Rattle.std.proofs.lemmas.Option.{slice_get_past}
 use Rattle.std.specs.Global.{Global}
-use Rattle.std.specs.Prelude.{Vec, map, is_some, nat_lt, replicate, slice_get, slice_index, slice_index_or, slice_set, ◌==◌, if◌then◌else◌}
+use Rattle.std.specs.Prelude.{Vec, is_some, nat_lt, replicate, slice_get, slice_index, slice_index_or, slice_set, ◌==◌, if◌then◌else◌}
 use Rattle.std.proofs.lemmas.Bool.{cases_lt, lt-ltb, le-ltb}
 use Rattle.std.proofs.lemmas.Bool.Decides.{eqb_tells}
 use Rattle.kernel_tree.specs.Device.{row}
@@ -92,21 +92,3 @@ same_bound m n h =
     (λ ge. omega arith)
     (cases_lt n m))
     (cases_lt m n)
-
-pub length_row : (ns : List ℕ) (w a : ℕ) → length (row (map (λ n. replicate n w) ns) a) ≡ slice_index ns a
-length_row [] w zero = refl
-length_row [] w (suc a) = refl
-length_row (n ∷ ns) w zero = length_replicate n w
-  where
-    length_replicate : (m v : ℕ) → length (replicate m v) ≡ m
-    length_replicate zero v = refl
-    length_replicate (suc m) v = ap suc (length_replicate m v)
-length_row (n ∷ ns) w (suc a) = length_row ns w a
-
-pub word_in_row : (ns : List ℕ) (w a i x : ℕ) → slice_get (row (map (λ n. replicate n w) ns) a) i ≡ Some x → w ≡ x
-word_in_row [] w zero zero x h = cc
-word_in_row [] w zero (suc i) x h = cc
-word_in_row [] w (suc a) zero x h = cc
-word_in_row [] w (suc a) (suc i) x h = cc
-word_in_row (n ∷ ns) w zero i x h = get_replicate n i w x h
-word_in_row (n ∷ ns) w (suc a) i x h = word_in_row ns w a i x h

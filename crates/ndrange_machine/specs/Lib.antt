@@ -9,3 +9,4 @@ pub mod Sights
 pub mod Stands
 pub mod Takes
 pub mod Wants
+pub mod Words

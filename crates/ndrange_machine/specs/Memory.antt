@@ -1,10 +1,11 @@
 -- What the machine holds in its cells.
 use Rattle.std.specs.Global.{Global}
-use Rattle.std.specs.Prelude.{Vec, ℕ, List, [], ◌∷◌, Option, Some, None, zero, suc, map, is_some, slice_get, ◌==◌, ◌&&◌, if◌then◌else◌}
+use Rattle.std.specs.Prelude.{Vec, ℕ, List, Option, Some, None, map, is_some, slice_get, ◌==◌, ◌&&◌, if◌then◌else◌}
 use Rattle.kernel_tree.specs.Code.{Array, Input, Output, Local, Private}
 use Rattle.kernel_tree.specs.Launch.{Launch, item_count, group_count}
 use Rattle.kernel_tree.specs.Formula.{Four, four_if}
 use Rattle.kernel_tree.specs.Device.{Cell, behind, same_cell}
+use Rattle.ndrange_machine.specs.Words.{word_at}
 use Rattle.ndrange_machine.specs.declared.memory.Memory.{Memory}
 
 -- what vectors hold
@@ -20,18 +21,12 @@ in_row (Some row) i = slice_get row.items i
 abbrev pub cell_in : List (Vec ℕ Global) → ℕ → ℕ → Option ℕ
 cell_in rows a i = in_row (slice_get rows a) i
 
--- the rows of one home
-abbrev pub rows_at : List (Vec (Vec ℕ Global) Global) → (home : ℕ) → List (Vec ℕ Global)
-rows_at [] h = []
-rows_at (rows ∷ more) zero = rows.items
-rows_at (rows ∷ more) (suc h) = rows_at more h
-
 -- the word in a cell; none outside the array. Inputs and outputs have one home, which is 0
 abbrev pub held_at : Memory → Array → (home index : ℕ) → Option ℕ
 held_at m (Input a) h i = if h == 0 then cell_in m.ins.items a i else None
 held_at m (Output a) h i = if h == 0 then cell_in m.outs.items a i else None
-held_at m (Local a) h i = cell_in (rows_at m.locals.items h) a i
-held_at m (Private a) h i = cell_in (rows_at m.privates.items h) a i
+held_at m (Local a) h i = word_at m.locals h a i
+held_at m (Private a) h i = word_at m.privates h a i
 
 -- the word that the machine holds in a cell, if there is such a cell
 abbrev pub held : Memory → Cell → Option ℕ

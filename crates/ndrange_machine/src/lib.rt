@@ -13,6 +13,7 @@ mod items;
 mod line;
 mod machine;
 mod memory;
+mod own;
 mod turn;
 mod value;
 mod want;

@@ -20,6 +20,7 @@ ghost use Rattle.ndrange_machine.specs.Sights.{access_of_want, fault_in, lane_of
 ghost use Rattle.ndrange_machine.specs.ItemView.{ItemView};
 ghost use Rattle.ndrange_machine.specs.Known.{AreGroups};
 ghost use Rattle.ndrange_machine.specs.Memory.{rows_of};
+ghost use Rattle.ndrange_machine.specs.Words.{AreFilled};
 ghost use Rattle.ndrange_machine.specs.declared.want.Want.TheVariants as want_form;
 
 use crate::change::Change;
@@ -870,12 +871,10 @@ impl Stores {
         requires { IsSmall grid }
         ensures ins { IfOk result (λ s. rows_of s.memory.ins.items ≡ cells.ins) }
         ensures outs { IfOk result (λ s. rows_of s.memory.outs.items ≡ cells.outs) }
-        ensures locals { IfOk result (λ s. map (λ rows. rows_of rows.items) s.memory.locals.items
-            ≡ replicate (seen.group_count (laid grid))
-            (map (λ n. replicate n cells.rest) locals.items)) }
-        ensures privates { IfOk result (λ s. map (λ rows. rows_of rows.items) s.memory.privates.items
-            ≡ replicate (seen.item_count (laid grid))
-            (map (λ n. replicate n cells.rest) privates.items)) }
+        ensures locals { IfOk result (λ s. AreFilled s.memory.locals
+            (seen.group_count (laid grid)) locals.items cells.rest) }
+        ensures privates { IfOk result (λ s. AreFilled s.memory.privates
+            (seen.item_count (laid grid)) privates.items cells.rest) }
         ensures groups { IfOk result
             (λ s. AreGroups grid (seen.item_count (laid grid)) s.tables.groups.items) }
         ensures marked { IfOk result (λ s. s.tables.marks.groups ≡ seen.group_count (laid grid)) }

@@ -1,14 +1,16 @@
 //! All memory: a row of cells for each array, once for each home that the array has.
 
-ghost use Rattle.std.specs.Prelude.{◌≡◌, ◌+◌, ◌*◌, ℕ, ◌==◌, ◌&&◌, is_some, Some, IfOk, length, map, option_map, replicate, if◌then◌else◌};
+ghost use Rattle.std.specs.Prelude.{◌≡◌, ◌*◌, ℕ, ◌==◌, ◌&&◌, is_some, Some, IfOk, length, option_map, if◌then◌else◌};
 ghost use Rattle.kernel_tree.specs.Device.{Cell, behind, home};
 ghost use Rattle.kernel_tree.specs.Launch.{group_count, item_count};
 ghost use Rattle.enabled_events.specs.Grids.{laid, IsSmall};
 ghost use Rattle.ndrange_machine.specs.Known.{four_of};
 ghost use Rattle.kernel_tree.specs.Tree.{array_of};
-ghost use Rattle.ndrange_machine.specs.Memory.{cell_in, rows_at, rows_of, held, read_held, put_held, put_four};
+ghost use Rattle.ndrange_machine.specs.Memory.{cell_in, held, read_held, put_held, put_four};
+ghost use Rattle.ndrange_machine.specs.Words.{AreFilled};
 
 use crate::four::Four;
+use crate::own::OwnCells;
 use enabled_events::grid::Grid;
 use kernel_tree::tree::Array;
 use std::alloc::{AllocError, Global};
@@ -19,8 +21,8 @@ use std::alloc::{AllocError, Global};
 pub struct Memory {
     pub ins: Vec<Vec<u32>>,
     pub outs: Vec<Vec<u32>>,
-    pub locals: Vec<Vec<Vec<u32>>>,
-    pub privates: Vec<Vec<Vec<u32>>>,
+    pub locals: OwnCells,
+    pub privates: OwnCells,
 }
 
 impl Memory {
@@ -39,13 +41,13 @@ impl Memory {
         requires { IsSmall grid }
         ensures ins { IfOk result (λ m. m.ins.items ≡ ins.items) }
         ensures outs { IfOk result (λ m. m.outs.items ≡ outs.items) }
-        ensures locals { IfOk result (λ m. map (λ rows. rows_of rows.items) m.locals.items
-            ≡ replicate (group_count (laid grid)) (map (λ n. replicate n word) locals.now)) }
-        ensures privates { IfOk result (λ m. map (λ rows. rows_of rows.items) m.privates.items
-            ≡ replicate (item_count (laid grid)) (map (λ n. replicate n word) privates.now)) }
+        ensures locals { IfOk result (λ m.
+            AreFilled m.locals (group_count (laid grid)) locals.now word) }
+        ensures privates { IfOk result (λ m.
+            AreFilled m.privates (item_count (laid grid)) privates.now word) }
     {
-        let locals = rows_for(alloc, grid.group_count(), locals, word)?;
-        let privates = rows_for(alloc, grid.item_count(), privates, word)?;
+        let locals = OwnCells::new(alloc, grid.group_count(), locals, word)?;
+        let privates = OwnCells::new(alloc, grid.item_count(), privates, word)?;
         Ok(Memory {
             ins,
             outs,
@@ -64,8 +66,8 @@ impl Memory {
         match array {
             Array::Input(a) => read_in(&self.ins, a, index),
             Array::Output(a) => read_in(&self.outs, a, index),
-            Array::Local(a) => read_at(&self.locals, group, a, index),
-            Array::Private(a) => read_at(&self.privates, item, a, index),
+            Array::Local(a) => self.locals.read(group, a, index),
+            Array::Private(a) => self.privates.read(item, a, index),
         }
     }
 
@@ -87,8 +89,8 @@ impl Memory {
         match array {
             Array::Input(a) => write_in(&mut self.ins, a, index, word),
             Array::Output(a) => write_in(&mut self.outs, a, index, word),
-            Array::Local(a) => write_at(&mut self.locals, group, a, index, word),
-            Array::Private(a) => write_at(&mut self.privates, item, a, index, word),
+            Array::Local(a) => self.locals.write(group, a, index, word),
+            Array::Private(a) => self.privates.write(item, a, index, word),
         }
     }
 
@@ -131,60 +133,6 @@ impl Memory {
         self.write(array, group, item, first + 2, four.z);
         self.write(array, group, item, first + 3, four.w)
     }
-}
-
-// Rows of these lengths, once for each of so many homes, with the word in each cell.
-fn rows_for(
-    alloc: Global,
-    homes: u32,
-    lengths: &[u32],
-    word: u32,
-) -> Result<Vec<Vec<Vec<u32>>>, AllocError>
-    ensures { IfOk result (λ all. map (λ rows. rows_of rows.items) all.items
-        ≡ replicate homes (map (λ n. replicate n word) lengths.now)) }
-{
-    let mut all = Vec::new(alloc);
-    for _ in 0..homes {
-        all.push(rows(alloc, lengths, word)?)?;
-    }
-    Ok(all)
-}
-
-// Rows of these lengths with the word in each cell.
-fn rows(alloc: Global, lengths: &[u32], word: u32) -> Result<Vec<Vec<u32>>, AllocError>
-    ensures { IfOk result (λ rows. rows_of rows.items ≡ map (λ n. replicate n word) lengths.now) }
-{
-    let mut rows = Vec::new(alloc);
-    for length in lengths {
-        rows.push(vec![in alloc; word; *length as usize]?)?;
-    }
-    Ok(rows)
-}
-
-#[inline(always)]
-fn read_at(homes: &[Vec<Vec<u32>>], home: u32, row: u32, index: u64) -> Option<u32>
-    ensures { result ≡ cell_in (rows_at homes.now home) row index }
-{
-    match homes.get(home as usize) {
-        Some(rows) => read_in(rows, row, index),
-        None => None,
-    }
-}
-
-#[inline(always)]
-fn write_at(homes: &mut [Vec<Vec<u32>>], home: u32, row: u32, index: u64, word: u32) -> bool
-    ensures there { result ≡ is_some (cell_in (rows_at homes.old home) row index) }
-    ensures cells { (h a i : ℕ) → cell_in (rows_at homes.new h) a i
-        ≡ (if ((a == row) && ((h == home) && (i == index)))
-        && is_some (cell_in (rows_at homes.old home) row index)
-        then Some word else cell_in (rows_at homes.old h) a i) }
-{
-    let there = read_at(homes, home, row, index).is_some();
-    if there {
-        let rows = &mut homes[home as usize];
-        let _ = write_in(rows, row, index, word);
-    }
-    there
 }
 
 #[inline(always)]

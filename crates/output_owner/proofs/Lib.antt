@@ -1,6 +1,5 @@
 pub mod Products
 pub mod Rows
-pub mod Bases
 pub mod Legal
 pub mod Through
 pub mod Roots

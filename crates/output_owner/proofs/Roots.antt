@@ -15,21 +15,21 @@ use Rattle.lowered_tree.specs.Kinds.{asks_of}
 use Rattle.lowered_tree.specs.declared.lowered.Lowered.{Lowered}
 use Rattle.nest_premises.specs.Laws.{LegalNestsAreUnbroken, LegalTermsCanBeLowered}
 use Rattle.printed_form.specs.Programs.{cell_owner, IsLaunchOf}
-use Rattle.output_owner.specs.Bases.{bases_of}
+use Rattle.launch_lengths.specs.Bases.{bases_of}
+use Rattle.launch_lengths.specs.Laws.{BasesComeBack}
 use Rattle.output_owner.specs.Outputs.{IsLegalFor, cell_count}
 use Rattle.output_owner.specs.Owners.{IsOfTop, owner_on_top, position, written}
 use Rattle.output_owner.specs.declared.walk.OnTop.{OnTop}
 use Rattle.output_owner.specs.Written.{IsNumber, IsScalarOf}
-use Rattle.output_owner.proofs.Bases.{bases_back}
 
-module _ (lowered : LegalTermsCanBeLowered) (nests : LegalNestsAreUnbroken) (d : Declared) (l : Lowered) (launch : Launch) (bases : List ℕ) (cell : ℕ) (is : IsLegalFor d l) (local : Option ℕ) (here : IsLaunchOf d (asks_of local (tree_of l.term)) bases launch) where
+module _ (back : BasesComeBack) (lowered : LegalTermsCanBeLowered) (nests : LegalNestsAreUnbroken) (d : Declared) (l : Lowered) (launch : Launch) (bases : List ℕ) (cell : ℕ) (is : IsLegalFor d l) (local : Option ℕ) (here : IsLaunchOf d (asks_of local (tree_of l.term)) bases launch) where
   ok : Admissible l.names bases
   ok = subst (λ (ns : List Name). Admissible ns bases) is.names here.admissible.sizes
 
   same_bases : bases_of l.names launch.sizes ≡ bases
   same_bases =
       ap (bases_of l.names) (here.sizes ∙ ap (λ (ns : List Name). sizes_at ns bases) is.names)
-      ∙ bases_back l.names bases (subst AreNames is.names is.legal.declared.names) ok
+      ∙ back l.names bases (subst AreNames is.names is.legal.declared.names) ok
 
   few : cell_count bases l < 2 ^ 31
   few = subst (λ z. size z < 2 ^ 31) (shape_is bases (type_in (annotation_of l.types))) ((lowered d (tree_of l.term) (annotation_of l.types) is.legal is.copies).fits bases here.admissible.sizes).0.small

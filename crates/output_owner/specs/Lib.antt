@@ -1,4 +1,3 @@
-pub mod Bases
 pub mod Written
 pub mod Numbers
 pub mod Owners

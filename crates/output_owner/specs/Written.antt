@@ -11,7 +11,7 @@ use Rattle.lift_ir.specs.AtLaunch.{ty_at}
 use Rattle.lift_ir.specs.Types.{size}
 use Rattle.lowered_tree.specs.declared.around.Around.{Around}
 use Rattle.nest_premises.specs.Unbroken.{AllUnbroken}
-use Rattle.output_owner.specs.Bases.{bases_of}
+use Rattle.launch_lengths.specs.Bases.{bases_of}
 
 -- a typed term under binders, written where this is around it, with a rule broken at no node
 pub record IsWritten (names : List Name) (t : Tree) (n : Annotation) : Type 0 where

@@ -8,7 +8,7 @@ ghost use Rattle.lift_tree.specs.Typing.{Declared};
 ghost use Rattle.lift_ir.specs.AtLaunch.{length_at};
 ghost use Rattle.lift_ir.specs.Owner.{local_owner};
 ghost use Rattle.lowered_tree.specs.Kinds.{asks_of};
-ghost use Rattle.output_owner.specs.Bases.{bases_of};
+ghost use Rattle.launch_lengths.specs.Bases.{bases_of};
 ghost use Rattle.output_owner.specs.Outputs.{IsLegalFor, cell_count};
 ghost use Rattle.output_owner.specs.Owners.{owner_on_top, position, written};
 ghost use Rattle.output_owner.specs.Written.{IsScalarOf};
@@ -17,6 +17,7 @@ ghost use Rattle.size_arith.specs.Ranges.{AreNames};
 
 use crate::walk::{OnTop, on_top};
 use kernel_tree::launches::Launch;
+use launch_lengths::laws::bases_come_back;
 use lift_tree::term::MapKind;
 use lowered_tree::lowered::Lowered;
 use nest_premises::laws::{legal_nests_are_unbroken, legal_terms_can_be_lowered};
@@ -74,9 +75,8 @@ fn item(top: &OnTop, launch: &Launch, names: &[Name]) -> u32
 /// The work-item that writes the cell of this number, in row-major order, in each of the output's
 /// buffers: the one that a kernel for the term owes it by.
 ///
-/// Under `mapGlb` at turn i it is item i mod G, where the launch has
-/// G; under `mapWrg` at turn i and
-/// `mapLcl` at turn j local item j mod L of group i mod (G / L), where a group has L; with no
+/// Under `mapGlb` at turn i it is item i mod G, where the launch has G; under `mapWrg` at turn i
+/// and `mapLcl` at turn j local item j mod L of group i mod (G / L), where a group has L; with no
 /// parallel map item 0. The term is a legal one, the launch is one row and admissible for it,
 /// whatever local size is fixed, and the cell is in the output. It takes no memory.
 pub fn owner(lowered: &Lowered, launch: &Launch, cell: u64) -> u32
@@ -88,6 +88,7 @@ pub fn owner(lowered: &Lowered, launch: &Launch, cell: u64) -> u32
         → result ≡ cell_owner d.names bases launch.now (tree_of lowered.now.term)
         (annotation_of lowered.now.types) array cell }
 {
+    bases_come_back();
     legal_terms_can_be_lowered();
     legal_nests_are_unbroken();
     let names = lowered.names.as_slice();

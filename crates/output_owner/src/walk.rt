@@ -4,7 +4,7 @@ ghost use Rattle.std.specs.Prelude.{◌≡◌, ◌*◌, ◌<◌, ◌^◌, IfSome
 ghost use Rattle.lift_tree.specs.Annotations.{annotation_of};
 ghost use Rattle.lift_tree.specs.Tree.{tree_of};
 ghost use Rattle.lift_tree.specs.Types.{ty_of};
-ghost use Rattle.output_owner.specs.Bases.{bases_of};
+ghost use Rattle.launch_lengths.specs.Bases.{bases_of};
 ghost use Rattle.output_owner.specs.Owners.{IsOfNone, IsOfTop};
 ghost use Rattle.output_owner.specs.Numbers as numbers;
 ghost use Rattle.output_owner.specs.Numbers.{
@@ -19,7 +19,8 @@ ghost use Rattle.output_owner.specs.Numbers.{
 ghost use Rattle.output_owner.specs.Written.{IsScalarOf};
 ghost use Rattle.size_arith.specs.Ranges.{AreNames};
 
-use crate::lengths::{length_of, product, scalars};
+use crate::lengths::{product, scalars};
+use launch_lengths::length_of;
 use lift_tree::layout::Layout;
 use lift_tree::term::{MapKind, Term, UnaryForm};
 use lift_tree::ty::Ty;

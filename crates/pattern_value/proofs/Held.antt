@@ -1,13 +1,11 @@
--- Values as the program holds them, and the stack of binders.
-use Rattle.std.proofs.Common.{◌≡◌, ℕ, zero, suc, List, [], ◌∷◌, ◌++◌, ◌<◌, ◌≤◌, length, refl, ap, rules, ◌∙◌, arith}
-use Rattle.std.specs.Prelude.{Vec, map, reverse, get_or}
+-- Values as the program holds them.
+use Rattle.std.proofs.Common.{◌≡◌, ℕ, zero, suc, List, [], ◌∷◌, ◌++◌, ◌-◌, ◌<◌, ◌≤◌, length, refl, ap, rules, ◌∙◌, arith}
+use Rattle.std.specs.Prelude.{Vec, map, get_or}
 use Rattle.std.specs.Global.{Global}
-use Rattle.std.proofs.lemmas.List.{reverse-append}
 use Rattle.lift_tree.specs.declared.value.Val as held
 use Rattle.lift_tree.specs.declared.value.Val.{Val, the_lemmas, Row_of-Val, end_of-Val, more_of-Val, items-the_row-Val}
 use Rattle.lift_tree.specs.Values.{Value, Word, More, value_of, row_value, array, members, word, first, second, nth}
 use Rattle.lift_tree.proofs.Members.{members-array}
-use Rattle.pattern_value.specs.Shut.{stack}
 
 row_items : (n : _) (row : Row_of-Val n) → row_value row ≡ array (map value_of (items-the_row-Val n row))
 row_items n end_of-Val = refl
@@ -48,12 +46,12 @@ nth-beyond (x ∷ xs) (suc n) h = nth-beyond xs n (omega arith)
 
 pub ruleset at = (nth-get, nth-beyond)
 
--- ---- stacks
+-- ---- binders
+pub past : (v : Value) (vs : List Value) (n : ℕ) → 0 < n → nth (v ∷ vs) n ≡ nth vs (n - 1)
+past v vs zero h = absurd (omega arith)
+past v vs (suc n) h = ap (nth vs) (let e : n ≡ suc n - 1 = omega arith in e)
+
+-- ---- one value more
 pub push_behind : (vs : List Val) (v : Val) → map value_of (vs ++ v ∷ []) ≡ map value_of vs ++ value_of v ∷ []
 push_behind [] v = refl
 push_behind (x ∷ vs) v = ap (λ us. value_of x ∷ us) (push_behind vs v)
-
-pub stack_push : (vs : List Val) (v : Val) → stack (vs ++ v ∷ []) ≡ value_of v ∷ stack vs
-stack_push vs v = ap reverse (push_behind vs v) ∙ reverse-append (map value_of vs) (value_of v ∷ [])
-
-pub ruleset stacks = (stack_push)

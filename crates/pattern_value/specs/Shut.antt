@@ -1,5 +1,5 @@
 -- Definitions that stay shut, so that proofs see their arguments.
-use Rattle.std.specs.Prelude.{ℕ, List, ◌∷◌, map, reverse}
+use Rattle.std.specs.Prelude.{ℕ, List, ◌∷◌, map}
 use Rattle.scalar_ops.specs.declared.op.Reducer.{Reducer}
 use Rattle.scalar_ops.specs.Operators.{combine}
 use Rattle.lift_tree.specs.declared.value.Val.{Val}
@@ -7,10 +7,6 @@ use Rattle.lift_tree.specs.Lists.{fold_left}
 use Rattle.lift_tree.specs.Meaning.{World, meaning}
 use Rattle.lift_tree.specs.Tree.{Tree}
 use Rattle.lift_tree.specs.Values.{Value, Word, value_of, word, members, nth}
-
--- the values of binders that a stack holds, the nearest first; the stack has it last
-abbrev pub stack : List Val → List Value
-stack vs = reverse (map value_of vs)
 
 -- the members of the rows at this number
 abbrev pub column : ℕ → List Val → List Value

@@ -6,16 +6,17 @@ ghost use Rattle.lift_tree.specs.Lists.{pieces, strided};
 ghost use Rattle.lift_tree.specs.Meaning.{meaning, layout_value, unary_value, binary_value, array_of_rows, product_at, factor_at, nth_size};
 ghost use Rattle.lift_tree.specs.Tree as tree;
 ghost use Rattle.lift_tree.specs.Tree.{tree_of};
-ghost use Rattle.lift_tree.specs.Values.{value_of, array, members};
+ghost use Rattle.lift_tree.specs.Values.{value_of, array, members, nth};
 ghost use Rattle.lift_tree.specs.WorkedOut.{range_of};
-ghost use Rattle.pattern_value.specs.Shut.{stack, map_under, fold_under, fold_by};
+ghost use Rattle.pattern_value.specs.Held.{held, values_in};
+ghost use Rattle.pattern_value.specs.Shut.{map_under, fold_under, fold_by};
 ghost use Rattle.pattern_value.specs.World.{world_of};
 
 use crate::layout::{cut, joined, pad, reversed, slid, transposed, zipped};
+use crate::lent::Held;
 use crate::operator::{applied, combined, quotient, remainder};
-use crate::part::{
-    copied_at, copied_binder, into_first, into_members, into_second, list, members_of, word_of,
-};
+use crate::part::{list, members_of, word_of};
+use crate::scope::Scope;
 use lift_tree::layout::Layout;
 use lift_tree::length::Factor;
 use lift_tree::program::Size;
@@ -93,149 +94,160 @@ impl World<'_> {
         Ok(joined(alloc, columns)?)
     }
 
+    // The input of this number, or 0.
+    #[tactic(auto, using(crate::proofs::Under::inputs))]
+    fn input<'s>(&'s self, number: u32) -> Held<'s>
+        ensures { held result ≡ nth (world_of self.now).inputs number }
+    {
+        match self.inputs.get(number as usize) {
+            Some(v) => Held::Lent(v),
+            None => Held::Owned(Val::Number(0)),
+        }
+    }
+
     // The value of a layout at its child's value.
-    fn layout(&self, alloc: Global, layout: &Layout, v: Val) -> Result<Val, AllocError>
+    fn layout(&self, alloc: Global, layout: &Layout, v: Held<'_>) -> Result<Val, AllocError>
         ensures { IfOk result (λ u. value_of u
-            ≡ layout_value (world_of self.now).sizes layout.now (value_of v)) }
+            ≡ layout_value (world_of self.now).sizes layout.now (held v.entry)) }
     {
         match layout {
-            Layout::Join => joined(alloc, v),
-            Layout::Transpose => transposed(alloc, &v),
-            Layout::Split(length) => self.split(alloc, length.factors(), &v),
-            Layout::Reverse => Ok(reversed(alloc, v)),
-            Layout::Stride(step) => self.stride(alloc, step.factors(), &v),
+            Layout::Join => joined(alloc, v.into_owned(alloc)?),
+            Layout::Transpose => transposed(alloc, v.as_val()),
+            Layout::Split(length) => self.split(alloc, length.factors(), v.as_val()),
+            Layout::Reverse => Ok(reversed(alloc, v.into_owned(alloc)?)),
+            Layout::Stride(step) => self.stride(alloc, step.factors(), v.as_val()),
         }
     }
 
     // The value of a form at its child's value.
-    fn unary(&self, alloc: Global, form: &UnaryForm, v: Val) -> Result<Val, AllocError>
-        ensures { IfOk result (λ u. value_of u
-            ≡ unary_value (world_of self.now) form.now (value_of v)) }
+    fn unary<'s>(
+        &self,
+        alloc: Global,
+        form: &UnaryForm,
+        v: Held<'s>,
+    ) -> Result<Held<'s>, AllocError>
+        ensures { IfOk result (λ u. held u ≡ unary_value (world_of self.now) form.now (held v.entry)) }
     {
         match form {
-            UnaryForm::Div(n) => Ok(Val::Number(quotient(word_of(&v), *n))),
-            UnaryForm::Rem(n) => Ok(Val::Number(remainder(word_of(&v), *n))),
-            UnaryForm::First => Ok(into_first(v)),
-            UnaryForm::Second => Ok(into_second(v)),
-            UnaryForm::Layout(layout) => self.layout(alloc, layout, v),
-            UnaryForm::Slide(size, step) => slid(alloc, &v, *size, *step),
-            UnaryForm::Pad(before, after) => pad(alloc, &v, *before, *after),
+            UnaryForm::Div(n) => Ok(Held::Owned(Val::Number(quotient(word_of(v.as_val()), *n)))),
+            UnaryForm::Rem(n) => Ok(Held::Owned(Val::Number(remainder(word_of(v.as_val()), *n)))),
+            UnaryForm::First => Ok(v.into_first()),
+            UnaryForm::Second => Ok(v.into_second()),
+            UnaryForm::Layout(layout) => Ok(Held::Owned(self.layout(alloc, layout, v)?)),
+            UnaryForm::Slide(size, step) => {
+                Ok(Held::Owned(slid(alloc, v.as_val(), *size, *step)?))
+            }
+            UnaryForm::Pad(before, after) => {
+                Ok(Held::Owned(pad(alloc, v.as_val(), *before, *after)?))
+            }
             UnaryForm::ToLocal | UnaryForm::ToPrivate | UnaryForm::Then => Ok(v),
         }
     }
 
-    /// The term's value where the binders have these values, the nearest last.
+    /// The term's value where the binders have these values. What is bound or an input is lent.
     #[tactic(auto, using(crate::proofs::Under::under))]
     #[cycle(valuing)]
-    pub fn value(
-        &self,
+    pub fn value<'s>(
+        &'s self,
         alloc: Global,
-        binders: &mut Vec<Val>,
+        scope: &Scope<'s>,
         term: &Term,
-    ) -> Result<Val, AllocError>
-        ensures { IfOk result (λ v. (value_of v
-            ≡ meaning (world_of self.now) (stack binders.old.items) (tree_of term.now))
-            × (binders.new.items ≡ binders.old.items)) }
+    ) -> Result<Held<'s>, AllocError>
+        ensures { IfOk result (λ v. held v
+            ≡ meaning (world_of self.now) (values_in scope.now) (tree_of term.now)) }
     {
         match term {
-            Term::Variable(n) => copied_binder(alloc, binders, *n),
-            Term::Number(n) => Ok(Val::Number(*n)),
-            Term::Input(n) => copied_at(alloc, self.inputs, *n as usize),
+            Term::Variable(n) => Ok(scope.binder(*n)),
+            Term::Number(n) => Ok(Held::Owned(Val::Number(*n))),
+            Term::Input(n) => Ok(self.input(*n)),
             Term::Unary(form, a) => {
-                let v = self.value(alloc, binders, a)?;
+                let v = self.value(alloc, scope, a)?;
                 self.unary(alloc, form, v)
             }
-            Term::Binary(form, a, b) => self.binary(alloc, binders, *form, a, b),
-            Term::Select(condition, yes, no) => self.select(alloc, binders, condition, yes, no),
+            Term::Binary(form, a, b) => Ok(Held::Owned(self.binary(alloc, scope, *form, a, b)?)),
+            Term::Select(condition, yes, no) => self.select(alloc, scope, condition, yes, no),
             Term::Let(value, body) => {
-                let v = self.value(alloc, binders, value)?;
-                self.under(alloc, binders, v, body)
+                let v = self.value(alloc, scope, value)?;
+                Ok(Held::Owned(self.under(alloc, scope, v.as_val(), body)?))
             }
-            Term::Map(_, array, body) => self.map(alloc, binders, array, body),
-            Term::Fold(_, array, start, body) => self.fold(alloc, binders, array, start, body),
+            Term::Map(_, array, body) => Ok(Held::Owned(self.map(alloc, scope, array, body)?)),
+            Term::Fold(_, array, start, body) => {
+                Ok(Held::Owned(self.fold(alloc, scope, array, start, body)?))
+            }
         }
     }
 
     #[cycle(valuing)]
-    fn binary(
-        &self,
+    fn binary<'s>(
+        &'s self,
         alloc: Global,
-        binders: &mut Vec<Val>,
+        scope: &Scope<'s>,
         form: BinaryForm,
         a: &Term,
         b: &Term,
     ) -> Result<Val, AllocError>
-        ensures { IfOk result (λ v. (value_of v
-            ≡ meaning (world_of self.now) (stack binders.old.items)
-            (tree.Binary form (tree_of a.now) (tree_of b.now)))
-            × (binders.new.items ≡ binders.old.items)) }
+        ensures { IfOk result (λ v. value_of v ≡ meaning (world_of self.now)
+            (values_in scope.now) (tree.Binary form (tree_of a.now) (tree_of b.now))) }
     {
-        let v = self.value(alloc, binders, a)?;
-        let u = self.value(alloc, binders, b)?;
+        let v = self.value(alloc, scope, a)?;
+        let u = self.value(alloc, scope, b)?;
         binary(alloc, form, v, u)
     }
 
     #[tactic(auto, using(crate::proofs::Under::under))]
     #[cycle(valuing)]
-    fn select(
-        &self,
+    fn select<'s>(
+        &'s self,
         alloc: Global,
-        binders: &mut Vec<Val>,
+        scope: &Scope<'s>,
         condition: &Term,
         yes: &Term,
         no: &Term,
-    ) -> Result<Val, AllocError>
-        ensures { IfOk result (λ v. (value_of v
-            ≡ meaning (world_of self.now) (stack binders.old.items)
-            (tree.Select (tree_of condition.now) (tree_of yes.now) (tree_of no.now)))
-            × (binders.new.items ≡ binders.old.items)) }
+    ) -> Result<Held<'s>, AllocError>
+        ensures { IfOk result (λ v. held v ≡ meaning (world_of self.now) (values_in scope.now)
+            (tree.Select (tree_of condition.now) (tree_of yes.now) (tree_of no.now))) }
     {
-        let test = self.value(alloc, binders, condition)?;
-        if word_of(&test) != 0 {
-            self.value(alloc, binders, yes)
+        let test = self.value(alloc, scope, condition)?;
+        if word_of(test.as_val()) != 0 {
+            self.value(alloc, scope, yes)
         } else {
-            self.value(alloc, binders, no)
+            self.value(alloc, scope, no)
         }
     }
 
     #[cycle(valuing)]
-    fn map(
-        &self,
+    fn map<'s>(
+        &'s self,
         alloc: Global,
-        binders: &mut Vec<Val>,
+        scope: &Scope<'s>,
         xs: &Term,
         body: &Term,
     ) -> Result<Val, AllocError>
-        ensures { IfOk result (λ v. (value_of v
-            ≡ array (map_under (world_of self.now) (stack binders.old.items)
-            (tree_of body.now) (members (meaning (world_of self.now)
-            (stack binders.old.items) (tree_of xs.now)))))
-            × (binders.new.items ≡ binders.old.items)) }
+        ensures { IfOk result (λ v. value_of v ≡ array (map_under (world_of self.now)
+            (values_in scope.now) (tree_of body.now) (members (meaning (world_of self.now)
+            (values_in scope.now) (tree_of xs.now))))) }
     {
-        let members = self.value(alloc, binders, xs)?;
-        let all = self.mapped(alloc, binders, into_members(alloc, members), body)?;
-        Ok(list(all))
+        let xs = self.value(alloc, scope, xs)?;
+        Ok(list(self.mapped(alloc, scope, members_of(xs.as_val()), body)?))
     }
 
     #[cycle(valuing)]
-    fn fold(
-        &self,
+    fn fold<'s>(
+        &'s self,
         alloc: Global,
-        binders: &mut Vec<Val>,
+        scope: &Scope<'s>,
         xs: &Term,
         start: &Term,
         body: &Term,
     ) -> Result<Val, AllocError>
-        ensures { IfOk result (λ v. (value_of v
-            ≡ array (fold_under (world_of self.now) (stack binders.old.items)
-            (tree_of body.now) (meaning (world_of self.now) (stack binders.old.items)
-            (tree_of start.now)) (members (meaning (world_of self.now)
-            (stack binders.old.items) (tree_of xs.now))) ∷ []))
-            × (binders.new.items ≡ binders.old.items)) }
+        ensures { IfOk result (λ v. value_of v ≡ array (fold_under (world_of self.now)
+            (values_in scope.now) (tree_of body.now) (meaning (world_of self.now)
+            (values_in scope.now) (tree_of start.now)) (members (meaning (world_of self.now)
+            (values_in scope.now) (tree_of xs.now))) ∷ [])) }
     {
-        let members = self.value(alloc, binders, xs)?;
-        let start = self.value(alloc, binders, start)?;
-        let end = self.folded(alloc, binders, start, into_members(alloc, members), body)?;
+        let xs = self.value(alloc, scope, xs)?;
+        let start = self.value(alloc, scope, start)?.into_owned(alloc)?;
+        let end = self.folded(alloc, scope, start, members_of(xs.as_val()), body)?;
         alone(alloc, end)
     }
 
@@ -245,40 +257,15 @@ impl World<'_> {
     fn under(
         &self,
         alloc: Global,
-        binders: &mut Vec<Val>,
-        v: Val,
+        scope: &Scope<'_>,
+        v: &Val,
         body: &Term,
     ) -> Result<Val, AllocError>
-        ensures { IfOk result (λ u. (value_of u
-            ≡ meaning (world_of self.now) (value_of v ∷ stack binders.old.items)
-            (tree_of body.now)) × (binders.new.items ≡ binders.old.items)) }
+        ensures { IfOk result (λ u. value_of u ≡ meaning (world_of self.now)
+            (value_of v.now ∷ values_in scope.now) (tree_of body.now)) }
     {
-        binders.push(v)?;
-        let u = self.value(alloc, binders, body)?;
-        binders.pop();
-        Ok(u)
-    }
-
-    // The body's value under two more binders, the second the nearer.
-    #[tactic(auto, using(crate::proofs::Under::under))]
-    #[cycle(valuing)]
-    fn under_two(
-        &self,
-        alloc: Global,
-        binders: &mut Vec<Val>,
-        end: Val,
-        x: Val,
-        body: &Term,
-    ) -> Result<Val, AllocError>
-        ensures { IfOk result (λ u. (value_of u
-            ≡ meaning (world_of self.now) (value_of x ∷ value_of end ∷ stack
-            binders.old.items) (tree_of body.now))
-            × (binders.new.items ≡ binders.old.items)) }
-    {
-        binders.push(end)?;
-        let u = self.under(alloc, binders, x, body)?;
-        binders.pop();
-        Ok(u)
+        let u = (&*self).value(alloc, &Scope::Bound(&*v, &*scope), body)?;
+        u.into_owned(alloc)
     }
 
     #[tactic(auto, using(crate::proofs::Under::under))]
@@ -286,39 +273,37 @@ impl World<'_> {
     fn mapped(
         &self,
         alloc: Global,
-        binders: &mut Vec<Val>,
-        xs: Vec<Val>,
+        scope: &Scope<'_>,
+        xs: &[Val],
         body: &Term,
     ) -> Result<Vec<Val>, AllocError>
-        ensures { IfOk result (λ c. (map value_of c.items
-            ≡ map_under (world_of self.now) (stack binders.old.items) (tree_of body.now)
-            (map value_of xs.items)) × (binders.new.items ≡ binders.old.items)) }
+        ensures { IfOk result (λ c. map value_of c.items ≡ map_under (world_of self.now)
+            (values_in scope.now) (tree_of body.now) (map value_of xs.now)) }
     {
         let mut all = Vec::new(alloc);
         for x in xs {
-            all.push(self.under(alloc, binders, x, body)?)?;
+            all.push(self.under(alloc, scope, x, body)?)?;
         }
         Ok(all)
     }
 
+    // The last value of a fold that begins with `start`.
     #[tactic(auto, using(crate::proofs::Under::under))]
     #[cycle(valuing)]
     fn folded(
         &self,
         alloc: Global,
-        binders: &mut Vec<Val>,
+        scope: &Scope<'_>,
         start: Val,
-        xs: Vec<Val>,
+        xs: &[Val],
         body: &Term,
     ) -> Result<Val, AllocError>
-        ensures { IfOk result (λ v. (value_of v
-            ≡ fold_under (world_of self.now) (stack binders.old.items) (tree_of body.now)
-            (value_of start) (map value_of xs.items))
-            × (binders.new.items ≡ binders.old.items)) }
+        ensures { IfOk result (λ v. value_of v ≡ fold_under (world_of self.now)
+            (values_in scope.now) (tree_of body.now) (value_of start) (map value_of xs.now)) }
     {
         let mut end = start;
         for x in xs {
-            end = self.under_two(alloc, binders, end, x, body)?;
+            end = self.under(alloc, &Scope::Bound(&end, &*scope), x, body)?;
         }
         Ok(end)
     }
@@ -326,29 +311,32 @@ impl World<'_> {
 
 // The value of a form at its children's values.
 #[tactic(auto, using(crate::proofs::Under::reductions))]
-fn binary(alloc: Global, form: BinaryForm, v: Val, u: Val) -> Result<Val, AllocError>
-    ensures { IfOk result (λ w. value_of w ≡ binary_value form (value_of v) (value_of u)) }
+fn binary(alloc: Global, form: BinaryForm, v: Held<'_>, u: Held<'_>) -> Result<Val, AllocError>
+    ensures { IfOk result (λ w. value_of w ≡ binary_value form (held v.entry) (held u.entry)) }
 {
     match form {
         BinaryForm::Operator(operator) => {
-            Ok(Val::Number(applied(operator, word_of(&v), word_of(&u))))
+            Ok(Val::Number(applied(operator, word_of(v.as_val()), word_of(u.as_val()))))
         }
         BinaryForm::Pair => {
-            let v = Box::new(alloc, v)?;
-            Ok(Val::Pair(v, Box::new(alloc, u)?))
+            let v = Box::new(alloc, v.into_owned(alloc)?)?;
+            Ok(Val::Pair(v, Box::new(alloc, u.into_owned(alloc)?)?))
         }
-        BinaryForm::Zip => zipped(alloc, &v, &u),
-        BinaryForm::Reduce(reducer) => { alone(alloc, reduced(reducer, u, into_members(alloc, v))) }
+        BinaryForm::Zip => zipped(alloc, v.as_val(), u.as_val()),
+        BinaryForm::Reduce(reducer) => {
+            let start = u.into_owned(alloc)?;
+            alone(alloc, reduced(reducer, start, members_of(v.as_val())))
+        }
     }
 }
 
 #[tactic(auto, using(crate::proofs::Under::reductions))]
-fn reduced(reducer: Reducer, start: Val, xs: Vec<Val>) -> Val
-    ensures { value_of result ≡ fold_by reducer (value_of start) (map value_of xs.items) }
+fn reduced(reducer: Reducer, start: Val, xs: &[Val]) -> Val
+    ensures { value_of result ≡ fold_by reducer (value_of start) (map value_of xs.now) }
 {
     let mut end = start;
     for x in xs {
-        end = Val::Number(combined(reducer, word_of(&end), word_of(&x)));
+        end = Val::Number(combined(reducer, word_of(&end), word_of(x)));
     }
     end
 }

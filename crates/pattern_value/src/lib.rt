@@ -3,8 +3,10 @@
 
 mod evaluate;
 mod layout;
+mod lent;
 mod operator;
 mod part;
+mod scope;
 mod value;
 
 pub use value::value_of;

@@ -2,7 +2,6 @@
 
 ghost use Rattle.std.specs.Prelude.{◌≡◌, IfOk, map};
 ghost use Rattle.lift_tree.specs.Values.{value_of, array, word, members, first, second, nth};
-ghost use Rattle.pattern_value.specs.Shut.{stack};
 
 use lift_tree::value::Val;
 use std::alloc::{AllocError, Global};
@@ -107,22 +106,5 @@ pub fn copied_at(alloc: Global, xs: &[Val], n: usize) -> Result<Val, AllocError>
     match xs.get(n) {
         Some(x) => copied(alloc, x),
         None => Ok(Val::Number(0)),
-    }
-}
-
-/// A copy of the value of the binder of this number, 0 the nearest, which is the last.
-#[tactic(auto, using(crate::proofs::Held::stacks))]
-pub fn copied_binder(alloc: Global, binders: &[Val], n: u32) -> Result<Val, AllocError>
-    ensures { IfOk result (λ c. value_of c ≡ nth (stack binders.now) n) }
-{
-    match binders {
-        [] => Ok(Val::Number(0)),
-        [farther @ .., nearest] => {
-            if n == 0 {
-                copied(alloc, nearest)
-            } else {
-                copied_binder(alloc, farther, n - 1)
-            }
-        }
     }
 }

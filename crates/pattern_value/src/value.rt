@@ -7,6 +7,7 @@ ghost use Rattle.lift_tree.specs.Values as values;
 ghost use Rattle.pattern_value.specs.World.{world_at, HasItsType};
 
 use crate::evaluate::World;
+use crate::scope::Scope;
 use lift_tree::typed::Typed;
 use lift_tree::value::Val;
 use size_arith::Sizes;
@@ -35,6 +36,7 @@ pub fn value_of(
         bases: sizes.as_slice(),
         inputs,
     };
-    let value = world.value(alloc, &mut Vec::new(alloc), &typed.term)?;
-    Ok(value)
+    world
+        .value(alloc, &Scope::Empty, &typed.term)?
+        .into_owned(alloc)
 }

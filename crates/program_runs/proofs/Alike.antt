@@ -50,9 +50,9 @@ use Rattle.program_runs.proofs.Running.{OneKernel, start_is}
 -- ---- of a legal term
 
 pub kernels_alike : LegalTermsArePrintable → KernelsGoAlike → PrintedKernelsGoAlike
-kernels_alike printable alike p local t n w l k m c s r legal copies ok here cells =
-    let can = printable (declared_by p) t n legal copies in
-    alike (printer_for t) (declared_by p) (asks_of local t) w t n l k m c s r (can.can.lowerable w.bases ok.bases) (can.at_launch local w.bases l here) ok here cells
+kernels_alike printable alike d local t n w l k m c s r legal copies ok here cells =
+    let can = printable d t n legal copies in
+    alike (printer_for t) d (asks_of local t) w t n l k m c s r (can.can.lowerable w.bases ok.bases) (can.at_launch local w.bases l here) ok here cells
 
 -- ---- the same is seen
 
@@ -165,7 +165,7 @@ module _ (one_type : OneType) (alike : PrintedKernelsGoAlike) (p : PlainProgram)
 
   go_alike : GoesAlike (device_of k g.launch cells) (start_state k cells) (device_of m g.launch cells) (start_state m cells)
   go_alike =
-      alike p local last.tree last.types w g.launch k m cells (start_state k cells) (start_state m cells) accepted.legal accepted.copies ok.world here buffers
+      alike (declared_by p) local last.tree last.types w g.launch k m cells (start_state k cells) (start_state m cells) accepted.legal accepted.copies ok.world here buffers
       (first g.bases g.launch here) (other g.bases g.launch here) (start_is k g.launch cells) (start_is m g.launch cells) contents
 
   admits : Admits p output (asks_of local last.tree) w g.launch cells
@@ -193,7 +193,7 @@ module _ (one : OneKernel) (one_type : OneType) (ends : CompilationEndsOnce) (al
       let first = subst (PrintsAtAll ran.source local c.last) same_kernel c.prints in
       let second = subst (λ (x : TermState). PrintsAtAll ran.source local x other.kernel) same_last other.prints in
       let meets = subst (λ (a : PlainTy). MeetsSource ran.source a local c.last other.kernel) same_output (subst (λ (x : TermState). MeetsSource ran.source output local x other.kernel) same_last other.meets) in
-      let ok = subst (λ (a : Asks). IsAdmissibleFor ran.source a ran.given) (sym c.asked) (given_is_admissible ran.source (Run ran.task ran.local) launch ran.given ran.launch_file) in
+      let ok = subst (λ (a : Asks). IsAdmissibleFor ran.source a ran.given) (sym c.asked) (given_is_admissible ran.source (Run ran.task ran.local) launch ran.given refl ran.launch_file) in
       let e = runs_alike one_type alike ran.source ran.output local c.last c.accepted c.keeps c.typed.typed runs.kernel other.kernel first second meets ran.given ok lines_are.events lines_are.releases runs.run in
       record {
         events = lines_are.events;

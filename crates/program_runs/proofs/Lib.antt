@@ -1,6 +1,7 @@
 pub mod Admitted
 pub mod Buffers
 pub mod Commands
+pub mod Costs
 pub mod Failed
 pub mod InOrder
 pub mod LaidOut

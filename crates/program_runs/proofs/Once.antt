@@ -1,5 +1,5 @@
 -- The stages of each command come to one end.
-use Rattle.std.proofs.Common.{◌≡◌, ◌∙◌, ℕ, List, ap, map, sym, subst, refl, arith, inl, inr, None, Result, Ok, Err}
+use Rattle.std.proofs.Common.{◌≡◌, ◌∙◌, Bool, ℕ, List, Option, ap, map, sym, subst, refl, arith, inl, inr, None, Result, Ok, Err}
 use Rattle.std.proofs.lemmas.Option.{none-some, same_Some}
 use Rattle.lift_reader.specs.ProgramText.{IsProgramText, first_limit}
 use Rattle.lift_reader.specs.declared.refusal.ReadRefusal.TheVariants as readings
@@ -32,10 +32,10 @@ use Rattle.program_source.specs.Terms.{TermsOf}
 use Rattle.compilation.specs.Laws.{CompilationEndsOnce, SequencesEndOnce}
 use Rattle.compilation.specs.Legal.{LegalOf}
 use Rattle.compilation.specs.Sequence.{SequenceOf, outline_in}
-use Rattle.program_runs.specs.Started.{EvalOf, LaunchOf, LaunchesOf, RunOf, RunStagesOf, asks_in_order}
+use Rattle.program_runs.specs.Started.{EvalOf, LaunchOf, LaunchedOf, LaunchesOf, RunStagesOf, asks_in_order}
 use Rattle.program_runs.specs.Table.{stages_of, text_at}
 use Rattle.program_runs.specs.declared.command.Command.{Command}
-use Rattle.program_runs.specs.declared.command.Command.TheVariants.{Compile, Run, Eval, Steps, Stages, RunStages, Demo}
+use Rattle.program_runs.specs.declared.command.Command.TheVariants.{Compile, Run, Cost, Eval, Steps, Stages, RunStages, Demo}
 
 -- what is known of programs that are typed, and of their launch files
 pub record LaunchLaws : Type 0 where
@@ -55,10 +55,10 @@ launch_one well one p ask launch proper (Err e) (Err f) (inr a) (inl b) = absurd
 launch_one well one p ask launch proper (Err e) (Err f) (inr a) (inr b) =
     sym a.2 ∙ ap (launches.judged p ask) (same_Some a.0 b.0 (sym a.1.1 ∙ b.1.1)) ∙ b.2
 
-run_one : CompilationEndsOnce → LaunchLaws → (text : List ℕ) (p : PlainProgram) (script launch : List ℕ) → IsRead text p → IsOne (RunOf p script launch)
-run_one compiled laws text p script launch read =
+launched_one : CompilationEndsOnce → LaunchLaws → (ask : Bool → Option ℕ → Ask) (text : List ℕ) (p : PlainProgram) (script launch : List ℕ) → IsRead text p → IsOne (LaunchedOf ask p script launch)
+launched_one compiled laws ask text p script launch read =
     then_one _ _ (as_one source_failed (LegalOf p script) (compiled p script)) (λ last is.
-    as_one (launch_failed p) (LaunchOf p (asks.Run (is_task last.tree) (local_fixed script)) launch) (launch_one laws.refused laws.one p (asks.Run (is_task last.tree) (local_fixed script)) launch (laws.proper text p is.1.0 read is.1.1)))
+    as_one (launch_failed p) (LaunchOf p (ask (is_task last.tree) (local_fixed script)) launch) (launch_one laws.refused laws.one p (ask (is_task last.tree) (local_fixed script)) launch (laws.proper text p is.1.0 read is.1.1)))
 
 launches_one : StagesFilesAreNotRefused → StagesFilesGiveOneThing → (p : PlainProgram) (asks : List Ask) (launch : List ℕ) → HasProperInputs p → IsOne (LaunchesOf p asks launch)
 launches_one well one p asks launch proper (Ok g) (Ok h) a b = ap Ok (one p asks launch g h proper a b)
@@ -105,9 +105,9 @@ told_whole f why is = subst HidesNoMemory (sym is) (refusal_whole why)
 source_whole : {A : Type 0} (R : PlainProgram → Result A Refusal → Type 0) (p : PlainProgram) (f : Failure) → As source_failed (R p) (Err f) → HidesNoMemory f
 source_whole R p f (why, h, is) = told_whole f why is
 
-run_whole : (script launch : List ℕ) (p : PlainProgram) (f : Failure) → RunOf p script launch (Err f) → HidesNoMemory f
-run_whole script launch p f (inl (why, h, is)) = told_whole f why is
-run_whole script launch p f (inr (last, legal, (why, h, is))) = subst HidesNoMemory (sym is) (launch_whole p why)
+launched_whole : (ask : Bool → Option ℕ → Ask) (script launch : List ℕ) (p : PlainProgram) (f : Failure) → LaunchedOf ask p script launch (Err f) → HidesNoMemory f
+launched_whole ask script launch p f (inl (why, h, is)) = told_whole f why is
+launched_whole ask script launch p f (inr (last, legal, (why, h, is))) = subst HidesNoMemory (sym is) (launch_whole p why)
 
 run_stages_whole : (script launch : List ℕ) (p : PlainProgram) (f : Failure) → RunStagesOf p script launch (Err f) → HidesNoMemory f
 run_stages_whole script launch p f (inl (why, h, is)) = told_whole f why is
@@ -157,8 +157,8 @@ terms_end sources program script = one_end sources program (λ p. As source_fail
 kernel_end : SourcesEndOnce → CompilationEndsOnce → (program script : List ℕ) → HasOneEnd program (λ p. As source_failed (LegalOf p script))
 kernel_end sources compiled program script = one_end sources program (λ p. As source_failed (LegalOf p script)) (λ p read. as_one source_failed (LegalOf p script) (compiled p script)) (source_whole (λ p. LegalOf p script))
 
-run_end : SourcesEndOnce → CompilationEndsOnce → LaunchLaws → (program script launch : List ℕ) → HasOneEnd program (λ p. RunOf p script launch)
-run_end sources compiled laws program script launch = one_end sources program (λ p. RunOf p script launch) (λ p read. run_one compiled laws program p script launch read) (run_whole script launch)
+launched_end : SourcesEndOnce → CompilationEndsOnce → LaunchLaws → (ask : Bool → Option ℕ → Ask) (program script launch : List ℕ) → HasOneEnd program (λ p. LaunchedOf ask p script launch)
+launched_end sources compiled laws ask program script launch = one_end sources program (λ p. LaunchedOf ask p script launch) (λ p read. launched_one compiled laws ask program p script launch read) (launched_whole ask script launch)
 
 eval_end : SourcesEndOnce → LaunchLaws → (program launch : List ℕ) → HasOneEnd program (λ p. EvalOf p launch)
 eval_end sources laws program launch = one_end sources program (λ p. EvalOf p launch) (λ p read. eval_one sources laws program p launch read) (eval_whole launch)
@@ -174,7 +174,8 @@ demo_end sources program = one_end sources program (λ p. Gives (tt {0})) (λ p 
 
 pub commands_end : SourcesEndOnce → CompilationEndsOnce → SequencesEndOnce → LaunchLaws → (command : Command) (texts : List (List ℕ)) → HasOneEnd (text_at texts 0) (stages_of command texts)
 commands_end sources compiled sequences laws Compile texts = passed_end _ _ (kernel_end sources compiled (text_at texts 0) (text_at texts 1))
-commands_end sources compiled sequences laws (Run traced) texts = passed_end _ _ (run_end sources compiled laws (text_at texts 0) (text_at texts 1) (text_at texts 2))
+commands_end sources compiled sequences laws (Run traced) texts = passed_end _ _ (launched_end sources compiled laws asks.Run (text_at texts 0) (text_at texts 1) (text_at texts 2))
+commands_end sources compiled sequences laws (Cost items) texts = passed_end _ _ (launched_end sources compiled laws asks.Cost (text_at texts 0) (text_at texts 1) (text_at texts 2))
 commands_end sources compiled sequences laws Eval texts = passed_end _ _ (eval_end sources laws (text_at texts 0) (text_at texts 1))
 commands_end sources compiled sequences laws Steps texts = passed_end _ _ (terms_end sources (text_at texts 0) (text_at texts 1))
 commands_end sources compiled sequences laws Stages texts = passed_end _ _ (stages_end sources sequences (text_at texts 0) (text_at texts 1))

@@ -1,5 +1,5 @@
 -- The runs of a sequence so far, and what is known of the next.
-use Rattle.std.proofs.Common.{◌≡◌, ◌∙◌, ◌+◌, ◌<◌, ◌≤◌, ◌^◌, ℕ, zero, suc, true, List, [], ◌∷◌, ◌++◌, length, map, drop, take, Option, Some, refl, sym, ap, ap₂, arith, subst, append-nil}
+use Rattle.std.proofs.Common.{◌≡◌, ◌∙◌, ◌+◌, ◌<◌, ◌≤◌, ◌^◌, ℕ, zero, suc, true, List, [], ◌∷◌, ◌++◌, length, map, drop, take, Option, Some, refl, sym, ap, arith, subst, append-nil}
 use Rattle.std.specs.Prelude.{get_or, slice_get, sum_by}
 use Rattle.std.specs.List.{enumerate_from}
 use Rattle.std.proofs.lemmas.List.{drop_all, length-map, map-append, take_all}
@@ -12,7 +12,7 @@ use Rattle.kernel_tree.specs.declared.events.FaultKind.{FaultKind}
 use Rattle.kernel_tree.specs.declared.events.Cell as shown
 use Rattle.kernel_tree.specs.Code.{Kernel}
 use Rattle.kernel_tree.specs.Grammar.{is_kernel}
-use Rattle.kernel_tree.specs.Launch.{Cells, MayStart}
+use Rattle.kernel_tree.specs.Launch.{Cells, Launch, MayStart}
 use Rattle.kernel_tree.specs.Schedule.{Schedule}
 use Rattle.lift_tree.specs.Annotations.{type_in}
 use Rattle.lift_tree.specs.Launches.{IsAdmissibleLaunch, buffers_of, lists_of}
@@ -22,7 +22,7 @@ use Rattle.lift_tree.proofs.EveryAt.{every_at}
 use Rattle.lift_tree.specs.Programs.{PlainProgram}
 use Rattle.lift_tree.specs.Types.{HasType, HoldsElements, PlainTy}
 use Rattle.lift_tree.specs.Values.{Value}
-use Rattle.lift_tree.specs.Typing.{IsAdmissible, ValuesHaveTypes, declared_by}
+use Rattle.lift_tree.specs.Typing.{ValuesHaveTypes, declared_by}
 use Rattle.size_arith.specs.declared.names.Name.{Name}
 use Rattle.size_arith.specs.Ranges.{sizes_at}
 use Rattle.printed_form.specs.Programs.{IsLaunchOf}
@@ -32,13 +32,12 @@ use Rattle.sequence_runs.specs.Runs.{Stage}
 use Rattle.value_lists.specs.Laws.{ListsHoldOneValue}
 use Rattle.value_lists.specs.Lists.{IsSmall, value_in, width}
 use Rattle.program_runs.proofs.LaidOut.{elements_once, small_once}
-use Rattle.launch_file.specs.LaunchFile.{Given}
 use Rattle.launch_file.specs.ResultLine.{result_line}
+use Rattle.launch_file.specs.Stages.{Count, GivenInOrder}
 use Rattle.program_source.specs.Program.{source_value}
 use Rattle.compilation.specs.Meets.{CanBeLaidOut, asks_with}
 use Rattle.compilation.specs.Sequence.{IsSequenceFor, Outline, outline_in, part_of}
-use Rattle.program_runs.specs.Runs.{IsAdmissibleFor, world_given}
-use Rattle.program_runs.specs.Sequences.{AreAdmissibleFor, AreAdmissibleLaunches, AreRunInTurn, KernelRun, RunInTurn, begun_from, world_shared}
+use Rattle.program_runs.specs.Sequences.{AreAdmissibleFor, AreAdmissibleLaunches, AreRunInTurn, KernelRun, RunInTurn, begun_from, launch_at, world_in}
 use Rattle.program_runs.proofs.Running.{start_once}
 use Rattle.program_runs.proofs.InOrder.{InputsStay, KeepOn, clean_next, keeps_next, left_at_last, starts_next}
 
@@ -68,14 +67,14 @@ taken_at [] n x at = absurd (cc)
 taken_at (y ∷ xs) zero x at = ap (λ z. z ∷ []) (cc)
 taken_at (y ∷ xs) (suc n) x at = ap (λ zs. y ∷ zs) (taken_at xs n x at)
 
-launched_at : (p : PlainProgram) (local : Option ℕ) (os : List Outline) (gs : List Given) (n : ℕ) (o : Outline) (g : Given) → AreAdmissibleLaunches p local os gs → slice_get os n ≡ Some o → slice_get gs n ≡ Some g → IsAdmissibleFor p (asks_with o.alone local) g
-launched_at p local [] gs n o g h at with = absurd (cc)
-launched_at p local (x ∷ os) [] n o g h at with = absurd h
-launched_at p local (x ∷ os) (y ∷ gs) zero o g h at with =
+launched_at : (p : PlainProgram) (local : Option ℕ) (bases : List ℕ) (os : List Outline) (cs : List Count) (n : ℕ) (o : Outline) (c : Count) → AreAdmissibleLaunches p local bases os cs → slice_get os n ≡ Some o → slice_get cs n ≡ Some c → IsAdmissibleLaunch (declared_by p).names (asks_with o.alone local) bases c.global c.local
+launched_at p local bases [] cs n o c h at with = absurd (cc)
+launched_at p local bases (x ∷ os) [] n o c h at with = absurd h
+launched_at p local bases (x ∷ os) (y ∷ cs) zero o c h at with =
     let same : x ≡ o = cc in
-    let given : y ≡ g = cc in
-    subst (λ (z : Given). IsAdmissibleFor p (asks_with o.alone local) z) given (subst (λ (z : Outline). IsAdmissibleFor p (asks_with z.alone local) y) same h.0)
-launched_at p local (x ∷ os) (y ∷ gs) (suc n) o g h at with = launched_at p local os gs n o g h.1 at with
+    let given : y ≡ c = cc in
+    subst (λ (z : Count). IsAdmissibleLaunch (declared_by p).names (asks_with o.alone local) bases z.global z.local) given (subst (λ (z : Outline). IsAdmissibleLaunch (declared_by p).names (asks_with z.alone local) bases y.global y.local) same h.0)
+launched_at p local bases (x ∷ os) (y ∷ cs) (suc n) o c h at with = launched_at p local bases os cs n o c h.1 at with
 
 pub got : {A : Type 0} (xs : List A) (i n : ℕ) (x : A) → i ≡ n → n < length xs → x ≡ get_or xs i x → slice_get xs n ≡ Some x
 got xs i n x same lt is = there xs n lt (is ∙ ap (λ (k : ℕ). get_or xs k x) same)
@@ -102,10 +101,6 @@ pub numbered_length : {A : Type 0} (m : ℕ) (xs : List A) → length (enumerate
 numbered_length m [] = refl
 numbered_length m (x ∷ xs) = let e = numbered_length (m + 1) xs in omega (arith, e)
 
-pub first_world : (gs : List Given) (g : Given) → slice_get gs 0 ≡ Some g → world_shared gs ≡ world_given g
-first_world [] g at = absurd (cc)
-first_world (h ∷ gs) g at = ap world_given (same_Some h g at)
-
 -- ---- the runs so far
 
 -- what buffers hold behind the runs
@@ -117,9 +112,9 @@ behind_more : (ins : List (List ℕ)) (rs : List KernelRun) (r : KernelRun) → 
 behind_more ins [] r = refl
 behind_more ins (x ∷ rs) r = behind_more (ins ++ x.left) rs r
 
-runs_more : (ins : List (List ℕ)) (rs : List KernelRun) (r : KernelRun) → RunInTurn ins rs → EndsUnder r.given.schedule r.kernel r.given.launch (begun_from (behind ins rs) r.given.bases r.output) r.left r.events r.releases → RunInTurn ins (rs ++ r ∷ [])
-runs_more ins [] r h e = (e, tt)
-runs_more ins (x ∷ rs) r h e = (h.0, runs_more (ins ++ x.left) rs r h.1 e)
+runs_more : (schedule : Schedule) (bases : List ℕ) (ins : List (List ℕ)) (rs : List KernelRun) (r : KernelRun) → RunInTurn schedule bases ins rs → EndsUnder schedule r.kernel r.launch (begun_from (behind ins rs) bases r.output) r.left r.events r.releases → RunInTurn schedule bases ins (rs ++ r ∷ [])
+runs_more schedule bases ins [] r h e = (e, tt)
+runs_more schedule bases ins (x ∷ rs) r h e = (h.0, runs_more schedule bases (ins ++ x.left) rs r h.1 e)
 
 sum_more : (f : KernelRun → ℕ) (rs : List KernelRun) (r : KernelRun) → sum_by f (rs ++ r ∷ []) ≡ sum_by f rs + f r
 sum_more f rs r = let e = sum_by-append f rs (r ∷ []) in let one : sum_by f (r ∷ []) ≡ f r = omega arith in omega (arith, e, one)
@@ -127,13 +122,17 @@ sum_more f rs r = let e = sum_by-append f rs (r ∷ []) in let one : sum_by f (r
 capped_more : (a b c s : ℕ) → a ≡ capped b → s ≡ b + c → capped (a + c) ≡ capped s
 capped_more a b c s first all = omega (arith, first, all)
 
-module _ (p : PlainProgram) (output : PlainTy) (local : Option ℕ) (outlines : List Outline) (text : List ℕ) (gs : List Given) (xs : List Kernel) (first : List (List ℕ)) where
+module _ (p : PlainProgram) (output : PlainTy) (local : Option ℕ) (outlines : List Outline) (text : List ℕ) (g : GivenInOrder) (xs : List Kernel) (first : List (List ℕ)) where
+  -- the world of all
+  abbrev w : World
+  w = world_in g.shared
+
   -- so many kernels were run; the last of them left this behind what was there before it
   pub record SoFar (n : ℕ) (ins left : List (List ℕ)) (events releases : ℕ) : Type 0 where
-    pub run : AreRunInTurn first (take n xs) (take n outlines) (take n gs) events releases
+    pub run : AreRunInTurn g.shared first (take n xs) (take n outlines) (take n g.counts) events releases
     pub there : behind first run.runs ≡ ins ++ left
-    pub keep : (t : IsSequenceFor p output local outlines text) → KeepOn local (world_shared gs).bases output (source_value p (world_shared gs)) (drop n t.kernels) (ins ++ left)
-    pub last : 0 < n → length xs ≤ n → left ≡ lists_of output (source_value p (world_shared gs))
+    pub keep : (t : IsSequenceFor p output local outlines text) → KeepOn local g.shared.bases output (source_value p w) (drop n t.kernels) (ins ++ left)
+    pub last : 0 < n → length xs ≤ n → left ≡ lists_of output (source_value p w)
 
   -- the same at equal things
   pub so_far_as : (n m : ℕ) (a b u v : List (List ℕ)) (e f r q : ℕ) → n ≡ m → a ≡ b → u ≡ v → e ≡ f → r ≡ q → SoFar n a u e r → SoFar m b v f q
@@ -141,24 +140,24 @@ module _ (p : PlainProgram) (output : PlainTy) (local : Option ℕ) (outlines : 
       subst (λ (z : ℕ). SoFar m b v f z) releases (subst (λ (z : ℕ). SoFar m b v z r) events (subst (λ (z : List (List ℕ)). SoFar m b z e r) left (subst (λ (z : List (List ℕ)). SoFar m z u e r) ins (subst (λ (z : ℕ). SoFar z a u e r) number s))))
 
   -- what is known of the next
-  pub record Next (n : ℕ) (x : Kernel) (o : Outline) (g : Given) (ins left : List (List ℕ)) (events releases : ℕ) : Type 0 where
+  pub record Next (n : ℕ) (x : Kernel) (o : Outline) (c : Count) (ins left : List (List ℕ)) (events releases : ℕ) : Type 0 where
     pub elements : HoldsElements o.output
     pub few : width o.output < 2 ^ 32
-    pub small : IsSmall g.bases 1 o.output
-    pub starts : MayStart x g.launch (begun_from (ins ++ left) g.bases o.output)
-    pub clean : (kind : FaultKind) (event item : ℕ) (cell : Option shown.Cell) → FaultsUnder g.schedule x g.launch (begun_from (ins ++ left) g.bases o.output) kind event item cell → ⊥
-    pub then : InputsStay → is_kernel x ≡ true → (rows : List (List ℕ)) (more freed : ℕ) → EndsUnder g.schedule x g.launch (begun_from (ins ++ left) g.bases o.output) rows more freed
+    pub small : IsSmall g.shared.bases 1 o.output
+    pub starts : MayStart x (launch_at g.shared.sizes c) (begun_from (ins ++ left) g.shared.bases o.output)
+    pub clean : (kind : FaultKind) (event item : ℕ) (cell : Option shown.Cell) → FaultsUnder g.shared.schedule x (launch_at g.shared.sizes c) (begun_from (ins ++ left) g.shared.bases o.output) kind event item cell → ⊥
+    pub then : InputsStay → is_kernel x ≡ true → (rows : List (List ℕ)) (more freed : ℕ) → EndsUnder g.shared.schedule x (launch_at g.shared.sizes c) (begun_from (ins ++ left) g.shared.bases o.output) rows more freed
         → SoFar (suc n) (ins ++ left) rows (capped (events + more)) (capped (releases + freed))
 
   -- ---- counts of kernels
 
-  as_many_launches : (os : List Outline) (hs : List Given) → AreAdmissibleLaunches p local os hs → length hs ≡ length os
-  as_many_launches [] [] h = refl
-  as_many_launches [] (g ∷ hs) h = absurd h
-  as_many_launches (o ∷ os) [] h = absurd h
-  as_many_launches (o ∷ os) (g ∷ hs) h = let e = as_many_launches os hs h.1 in omega (arith, e)
+  as_many_launches : (bases : List ℕ) (os : List Outline) (cs : List Count) → AreAdmissibleLaunches p local bases os cs → length cs ≡ length os
+  as_many_launches bases [] [] h = refl
+  as_many_launches bases [] (c ∷ cs) h = absurd h
+  as_many_launches bases (o ∷ os) [] h = absurd h
+  as_many_launches bases (o ∷ os) (c ∷ cs) h = let e = as_many_launches bases os cs h.1 in omega (arith, e)
 
-  module _ (one : TextsAreOfOneSequence) (read : IsSequenceText text xs) (ok : AreAdmissibleFor p local outlines gs) where
+  module _ (one : TextsAreOfOneSequence) (read : IsSequenceText text xs) (ok : AreAdmissibleFor p local outlines g) where
     module _ (t : IsSequenceFor p output local outlines text) where
       kernels_are : map (λ (k : Stage). k.kernel) t.kernels ≡ xs
       kernels_are = one text (map (λ (k : Stage). k.kernel) t.kernels) xs t.written read
@@ -173,46 +172,35 @@ module _ (p : PlainProgram) (output : PlainTy) (local : Option ℕ) (outlines : 
       pub outlines_count : length outlines ≡ length xs
       outlines_count = ∥∥₁_elim bars (Prim.hlevel props) as_many_outlines
 
-      pub givens_count : length gs ≡ length xs
-      givens_count = as_many_launches outlines gs ok.launches ∙ outlines_count
+      pub launches_count : length g.counts ≡ length xs
+      launches_count = as_many_launches g.shared.bases outlines g.counts ok.launches ∙ outlines_count
 
       -- before the first
-      admissible : (os : List Outline) (hs : List Given) → 0 < length os → AreAdmissibleLaunches p local os hs → IsAdmissible (declared_by p) (world_shared hs)
-      admissible [] hs some h = absurd (omega (arith, some))
-      admissible (o ∷ os) [] some h = absurd h
-      admissible (o ∷ os) (g ∷ hs) some h = h.0.world
-
-      pub world_admissible : IsAdmissible (declared_by p) (world_shared gs)
-      world_admissible = let some = read.some in let e = outlines_count in admissible outlines gs (omega (arith, some, e)) ok.launches
-
-      pub none_so_far : first ≡ buffers_of (declared_by p).inputs (world_shared gs).inputs → SoFar 0 first [] 0 0
+      pub none_so_far : first ≡ buffers_of (declared_by p).inputs g.shared.inputs → SoFar 0 first [] 0 0
       none_so_far is = record {
-        run = record { runs = []; of_kernels = refl; of_outputs = refl; of_givens = refl; run = tt; counted = refl; released = refl };
+        run = record { runs = []; of_kernels = refl; of_outputs = refl; of_launches = refl; run = tt; counted = refl; released = refl };
         there = sym (append-nil first);
-        keep = λ t. subst (KeepOn local (world_shared gs).bases output (source_value p (world_shared gs)) t.kernels) (sym is ∙ sym (append-nil first)) (λ rs begins runs. t.keep (world_shared gs) rs world_admissible begins runs);
+        keep = λ t. subst (KeepOn local g.shared.bases output (source_value p w) t.kernels) (sym is ∙ sym (append-nil first)) (λ rs begins runs. t.keep w rs ok.world begins runs);
         last = λ some. absurd (omega (arith, some));
       }
 
       -- after the last
-      pub all_so_far : (n : ℕ) (ins left : List (List ℕ)) (events releases : ℕ) → n ≡ length xs → SoFar n ins left events releases → AreRunInTurn first xs outlines gs events releases
+      pub all_so_far : (n : ℕ) (ins left : List (List ℕ)) (events releases : ℕ) → n ≡ length xs → SoFar n ins left events releases → AreRunInTurn g.shared first xs outlines g.counts events releases
       all_so_far n ins left events releases all s =
           let a = outlines_count in
-          let b = givens_count in
+          let b = launches_count in
           let x : take n xs ≡ xs = take_all n xs (omega (arith, all)) in
           let o : take n outlines ≡ outlines = take_all n outlines (omega (arith, all, a)) in
-          let g : take n gs ≡ gs = take_all n gs (omega (arith, all, b)) in
-          subst (λ z. AreRunInTurn first xs outlines z events releases) g (subst (λ z. AreRunInTurn first xs z (take n gs) events releases) o (subst (λ z. AreRunInTurn first z (take n outlines) (take n gs) events releases) x s.run))
+          let l : take n g.counts ≡ g.counts = take_all n g.counts (omega (arith, all, b)) in
+          subst (λ z. AreRunInTurn g.shared first xs outlines z events releases) l (subst (λ z. AreRunInTurn g.shared first xs z (take n g.counts) events releases) o (subst (λ z. AreRunInTurn g.shared first z (take n outlines) (take n g.counts) events releases) x s.run))
 
       -- the next
-      module _ (n : ℕ) (x : Kernel) (o : Outline) (g : Given) (at_x : slice_get xs n ≡ Some x) (at_o : slice_get outlines n ≡ Some o) (at_g : slice_get gs n ≡ Some g) (ins left : List (List ℕ)) (events releases : ℕ) (s : SoFar n ins left events releases) where
-        world_is : world_given g ≡ world_shared gs
-        world_is = every_at (λ (h : Given). world_given h ≡ world_shared gs) gs n g ok.shared at_g
+      module _ (n : ℕ) (x : Kernel) (o : Outline) (c : Count) (at_x : slice_get xs n ≡ Some x) (at_o : slice_get outlines n ≡ Some o) (at_c : slice_get g.counts n ≡ Some c) (ins left : List (List ℕ)) (events releases : ℕ) (s : SoFar n ins left events releases) where
+        abbrev l : Launch
+        l = launch_at g.shared.sizes c
 
-        bases_are : g.bases ≡ (world_shared gs).bases
-        bases_are = ap (λ (w : World). w.bases) world_is
-
-        its : IsAdmissibleFor p (asks_with o.alone local) g
-        its = launched_at p local outlines gs n o g ok.launches at_o at_g
+        its : IsAdmissibleLaunch (declared_by p).names (asks_with o.alone local) g.shared.bases c.global c.local
+        its = launched_at p local g.shared.bases outlines g.counts n o c ok.launches at_o at_c
 
         module _ (t : IsSequenceFor p output local outlines text) where
           own : (k : Stage) × (slice_get t.kernels n ≡ Some k) × (k.kernel ≡ x)
@@ -226,60 +214,59 @@ module _ (p : PlainProgram) (output : PlainTy) (local : Option ℕ) (outlines : 
           names_are : own.0.declared.names ≡ (declared_by p).names
           names_are = every_at (λ (k : Stage). k.declared.names ≡ (declared_by p).names) t.kernels n own.0 t.names own.1
 
-          launch_is : IsLaunchOf own.0.declared (asks_of local own.0.tree) (world_shared gs).bases g.launch
+          launch_is : IsLaunchOf own.0.declared (asks_of local own.0.tree) g.shared.bases l
           launch_is = record {
-            flat = its.flat;
+            flat = record { one_row = refl; one_local_row = refl };
             admissible =
-                subst (λ (b : List ℕ). IsAdmissibleLaunch own.0.declared.names (asks_of local own.0.tree) b g.launch.global.0 g.launch.local.0) bases_are
-                (subst (λ (z : Outline). IsAdmissibleLaunch own.0.declared.names (asks_with z.alone local) g.bases g.launch.global.0 g.launch.local.0) (sym outline_is)
-                (subst (λ (z : List Name). IsAdmissibleLaunch z (asks_with o.alone local) g.bases g.launch.global.0 g.launch.local.0) (sym names_are) its.launch));
-            sizes = its.world.sizes ∙ ap₂ (λ (z : List Name) (b : List ℕ). sizes_at z b) (sym names_are) bases_are;
+                subst (λ (z : Outline). IsAdmissibleLaunch own.0.declared.names (asks_with z.alone local) g.shared.bases c.global c.local) (sym outline_is)
+                (subst (λ (z : List Name). IsAdmissibleLaunch z (asks_with o.alone local) g.shared.bases c.global c.local) (sym names_are) its);
+            sizes = ok.world.sizes ∙ ap (λ (z : List Name). sizes_at z g.shared.bases) (sym names_are);
           }
 
-          keep_here : KeepOn local (world_shared gs).bases output (source_value p (world_shared gs)) (own.0 ∷ drop (suc n) t.kernels) (ins ++ left)
-          keep_here = subst (λ (z : List Stage). KeepOn local (world_shared gs).bases output (source_value p (world_shared gs)) z (ins ++ left)) (dropped_at t.kernels n own.0 own.1) (s.keep t)
+          keep_here : KeepOn local g.shared.bases output (source_value p w) (own.0 ∷ drop (suc n) t.kernels) (ins ++ left)
+          keep_here = subst (λ (z : List Stage). KeepOn local g.shared.bases output (source_value p w) z (ins ++ left)) (dropped_at t.kernels n own.0 own.1) (s.keep t)
 
-          cells_are : begun_from (ins ++ left) (world_shared gs).bases (type_in own.0.types) ≡ begun_from (ins ++ left) g.bases o.output
-          cells_are = ap₂ (λ (b : List ℕ) (z : Outline). begun_from (ins ++ left) b z.output) (sym bases_are) outline_is
+          cells_are : begun_from (ins ++ left) g.shared.bases (type_in own.0.types) ≡ begun_from (ins ++ left) g.shared.bases o.output
+          cells_are = ap (λ (z : Outline). begun_from (ins ++ left) g.shared.bases z.output) outline_is
 
-          starts_so : MayStart x g.launch (begun_from (ins ++ left) g.bases o.output)
-          starts_so = subst (λ (c : Cells). MayStart x g.launch c) cells_are
-              (subst (λ (k : Kernel). MayStart k g.launch (begun_from (ins ++ left) (world_shared gs).bases (type_in own.0.types))) own.2
-              (starts_next local (world_shared gs).bases output (source_value p (world_shared gs)) own.0 (drop (suc n) t.kernels) (ins ++ left) keep_here g.launch launch_is))
+          starts_so : MayStart x l (begun_from (ins ++ left) g.shared.bases o.output)
+          starts_so = subst (λ (z : Cells). MayStart x l z) cells_are
+              (subst (λ (k : Kernel). MayStart k l (begun_from (ins ++ left) g.shared.bases (type_in own.0.types))) own.2
+              (starts_next local g.shared.bases output (source_value p w) own.0 (drop (suc n) t.kernels) (ins ++ left) keep_here l launch_is))
 
-          clean_so : (schedule : Schedule) (kind : FaultKind) (event item : ℕ) (cell : Option shown.Cell) → FaultsUnder schedule x g.launch (begun_from (ins ++ left) g.bases o.output) kind event item cell → ⊥
-          clean_so = subst (λ (c : Cells). (schedule : Schedule) (kind : FaultKind) (event item : ℕ) (cell : Option shown.Cell) → FaultsUnder schedule x g.launch c kind event item cell → ⊥) cells_are
-              (subst (λ (k : Kernel). (schedule : Schedule) (kind : FaultKind) (event item : ℕ) (cell : Option shown.Cell) → FaultsUnder schedule k g.launch (begun_from (ins ++ left) (world_shared gs).bases (type_in own.0.types)) kind event item cell → ⊥) own.2
-              (clean_next local (world_shared gs).bases output (source_value p (world_shared gs)) own.0 (drop (suc n) t.kernels) (ins ++ left) keep_here g.launch launch_is))
+          clean_so : (schedule : Schedule) (kind : FaultKind) (event item : ℕ) (cell : Option shown.Cell) → FaultsUnder schedule x l (begun_from (ins ++ left) g.shared.bases o.output) kind event item cell → ⊥
+          clean_so = subst (λ (z : Cells). (schedule : Schedule) (kind : FaultKind) (event item : ℕ) (cell : Option shown.Cell) → FaultsUnder schedule x l z kind event item cell → ⊥) cells_are
+              (subst (λ (k : Kernel). (schedule : Schedule) (kind : FaultKind) (event item : ℕ) (cell : Option shown.Cell) → FaultsUnder schedule k l (begun_from (ins ++ left) g.shared.bases (type_in own.0.types)) kind event item cell → ⊥) own.2
+              (clean_next local g.shared.bases output (source_value p w) own.0 (drop (suc n) t.kernels) (ins ++ left) keep_here l launch_is))
 
-          module _ (rows : List (List ℕ)) (more freed : ℕ) (e : EndsUnder g.schedule x g.launch (begun_from (ins ++ left) g.bases o.output) rows more freed) where
-            ends : EndsUnder g.schedule own.0.kernel g.launch (begun_from (ins ++ left) (world_shared gs).bases (type_in own.0.types)) rows more freed
-            ends = subst (λ (k : Kernel). EndsUnder g.schedule k g.launch (begun_from (ins ++ left) (world_shared gs).bases (type_in own.0.types)) rows more freed) (sym own.2)
-                (subst (λ (c : Cells). EndsUnder g.schedule x g.launch c rows more freed) (sym cells_are) e)
+          module _ (rows : List (List ℕ)) (more freed : ℕ) (e : EndsUnder g.shared.schedule x l (begun_from (ins ++ left) g.shared.bases o.output) rows more freed) where
+            ends : EndsUnder g.shared.schedule own.0.kernel l (begun_from (ins ++ left) g.shared.bases (type_in own.0.types)) rows more freed
+            ends = subst (λ (k : Kernel). EndsUnder g.shared.schedule k l (begun_from (ins ++ left) g.shared.bases (type_in own.0.types)) rows more freed) (sym own.2)
+                (subst (λ (z : Cells). EndsUnder g.shared.schedule x l z rows more freed) (sym cells_are) e)
 
-            keep_then : InputsStay → is_kernel x ≡ true → KeepOn local (world_shared gs).bases output (source_value p (world_shared gs)) (drop (suc n) t.kernels) ((ins ++ left) ++ rows)
+            keep_then : InputsStay → is_kernel x ≡ true → KeepOn local g.shared.bases output (source_value p w) (drop (suc n) t.kernels) ((ins ++ left) ++ rows)
             keep_then stay grammar =
-                keeps_next local (world_shared gs).bases output (source_value p (world_shared gs)) own.0 (drop (suc n) t.kernels) (ins ++ left) keep_here g.launch launch_is g.schedule rows more freed ends stay
+                keeps_next local g.shared.bases output (source_value p w) own.0 (drop (suc n) t.kernels) (ins ++ left) keep_here l launch_is g.shared.schedule rows more freed ends stay
                 (ap is_kernel own.2 ∙ grammar)
 
-            last_then : length xs ≤ suc n → rows ≡ lists_of output (source_value p (world_shared gs))
+            last_then : length xs ≤ suc n → rows ≡ lists_of output (source_value p w)
             last_then whole =
                 let e = as_many_kernels t in
-                left_at_last local (world_shared gs).bases output (source_value p (world_shared gs)) own.0 (drop (suc n) t.kernels) (ins ++ left) keep_here g.launch launch_is g.schedule rows more freed ends
+                left_at_last local g.shared.bases output (source_value p w) own.0 (drop (suc n) t.kernels) (ins ++ left) keep_here l launch_is g.shared.schedule rows more freed ends
                 (drop_all (suc n) t.kernels (omega (arith, e, whole)))
 
-        next_starts : MayStart x g.launch (begun_from (ins ++ left) g.bases o.output)
-        next_starts = ∥∥₁_elim bars (start_once x g.launch (begun_from (ins ++ left) g.bases o.output)) starts_so
+        next_starts : MayStart x l (begun_from (ins ++ left) g.shared.bases o.output)
+        next_starts = ∥∥₁_elim bars (start_once x l (begun_from (ins ++ left) g.shared.bases o.output)) starts_so
 
-        next_is_clean : (kind : FaultKind) (event item : ℕ) (cell : Option shown.Cell) → FaultsUnder g.schedule x g.launch (begun_from (ins ++ left) g.bases o.output) kind event item cell → ⊥
-        next_is_clean kind event item cell f = ∥∥₁_elim bars (Prim.hlevel props) (λ t. clean_so t g.schedule kind event item cell f)
+        next_is_clean : (kind : FaultKind) (event item : ℕ) (cell : Option shown.Cell) → FaultsUnder g.shared.schedule x l (begun_from (ins ++ left) g.shared.bases o.output) kind event item cell → ⊥
+        next_is_clean kind event item cell f = ∥∥₁_elim bars (Prim.hlevel props) (λ t. clean_so t g.shared.schedule kind event item cell f)
 
-        next_so_far : InputsStay → is_kernel x ≡ true → (rows : List (List ℕ)) (more freed : ℕ) → EndsUnder g.schedule x g.launch (begun_from (ins ++ left) g.bases o.output) rows more freed
+        next_so_far : InputsStay → is_kernel x ≡ true → (rows : List (List ℕ)) (more freed : ℕ) → EndsUnder g.shared.schedule x l (begun_from (ins ++ left) g.shared.bases o.output) rows more freed
             → SoFar (suc n) (ins ++ left) rows (capped (events + more)) (capped (releases + freed))
         next_so_far stay grammar rows more freed e =
-            let r : KernelRun = record { kernel = x; output = o.output; given = g; left = rows; events = more; releases = freed } in
+            let r : KernelRun = record { kernel = x; output = o.output; launch = l; left = rows; events = more; releases = freed } in
             let runs = s.run.runs in
-            let here : EndsUnder g.schedule x g.launch (begun_from (behind first runs) g.bases o.output) rows more freed = subst (λ (z : List (List ℕ)). EndsUnder g.schedule x g.launch (begun_from z g.bases o.output) rows more freed) (sym s.there) e in
+            let here : EndsUnder g.shared.schedule x l (begun_from (behind first runs) g.shared.bases o.output) rows more freed = subst (λ (z : List (List ℕ)). EndsUnder g.shared.schedule x l (begun_from z g.shared.bases o.output) rows more freed) (sym s.there) e in
             record {
               run = record {
                 runs = runs ++ r ∷ [];
@@ -287,8 +274,10 @@ module _ (p : PlainProgram) (output : PlainTy) (local : Option ℕ) (outlines : 
                 of_outputs =
                     map-append (λ (q : KernelRun). q.output) runs (r ∷ []) ∙ ap (λ (z : List PlainTy). z ++ o.output ∷ []) s.run.of_outputs
                     ∙ sym (map-append (λ (z : Outline). z.output) (take n outlines) (o ∷ [])) ∙ ap (map (λ (z : Outline). z.output)) (sym (taken_at outlines n o at_o));
-                of_givens = map-append (λ (q : KernelRun). q.given) runs (r ∷ []) ∙ ap (λ (z : List Given). z ++ g ∷ []) s.run.of_givens ∙ sym (taken_at gs n g at_g);
-                run = runs_more first runs r s.run.run here;
+                of_launches =
+                    map-append (λ (q : KernelRun). q.launch) runs (r ∷ []) ∙ ap (λ (z : List Launch). z ++ l ∷ []) s.run.of_launches
+                    ∙ sym (map-append (launch_at g.shared.sizes) (take n g.counts) (c ∷ [])) ∙ ap (map (launch_at g.shared.sizes)) (sym (taken_at g.counts n c at_c));
+                run = runs_more g.shared.schedule g.shared.bases first runs r s.run.run here;
                 counted = capped_more events (sum_by (λ (q : KernelRun). q.events) runs) more _ s.run.counted (sum_more (λ (q : KernelRun). q.events) runs r);
                 released = capped_more releases (sum_by (λ (q : KernelRun). q.releases) runs) freed _ s.run.released (sum_more (λ (q : KernelRun). q.releases) runs r);
               };
@@ -300,11 +289,11 @@ module _ (p : PlainProgram) (output : PlainTy) (local : Option ℕ) (outlines : 
         laid_out : IsSequenceFor p output local outlines text → CanBeLaidOut (declared_by p).names o.output
         laid_out t = every_at (λ (z : Outline). CanBeLaidOut (declared_by p).names z.output) outlines n o t.laid_out at_o
 
-        pub next : Next n x o g ins left events releases
+        pub next : Next n x o c ins left events releases
         next = record {
           elements = ∥∥₁_elim bars (elements_once o.output) (λ t. (laid_out t).elements);
           few = ∥∥₁_elim bars (Prim.hlevel props) (λ t. (laid_out t).few);
-          small = ∥∥₁_elim bars (small_once g.bases 1 o.output) (λ t. (laid_out t).small g.bases its.launch.sizes);
+          small = ∥∥₁_elim bars (small_once g.shared.bases 1 o.output) (λ t. (laid_out t).small g.shared.bases its.sizes);
           starts = next_starts;
           clean = next_is_clean;
           then = next_so_far;
@@ -321,14 +310,14 @@ module _ (p : PlainProgram) (output : PlainTy) (local : Option ℕ) (outlines : 
           subst (λ (a : PlainTy). CanBeLaidOut (declared_by p).names a) t.last.3
           (every_last (λ (z : Outline). CanBeLaidOut (declared_by p).names z.output) t.last.0 t.last.1 (subst (Every (λ (z : Outline). CanBeLaidOut (declared_by p).names z.output)) t.last.2 t.laid_out))
 
-      pub output_small : IsSmall (world_shared gs).bases 1 output
-      output_small = ∥∥₁_elim bars (small_once (world_shared gs).bases 1 output) (λ t. (output_laid_out t).small (world_shared gs).bases world_admissible.bases)
+      pub output_small : IsSmall g.shared.bases 1 output
+      output_small = ∥∥₁_elim bars (small_once g.shared.bases 1 output) (λ t. (output_laid_out t).small g.shared.bases ok.world.bases)
 
       -- the line of what is read from these lists is the value's
-      pub value_told : ListsHoldOneValue → ValuesHaveTypes → (rows : List (List ℕ)) (counts : Option (ℕ × ℕ)) → rows ≡ lists_of output (source_value p (world_shared gs))
-          → result_line (value_in (world_shared gs).bases output rows 0 0) counts ≡ result_line (source_value p (world_shared gs)) counts
+      pub value_told : ListsHoldOneValue → ValuesHaveTypes → (rows : List (List ℕ)) (counts : Option (ℕ × ℕ)) → rows ≡ lists_of output (source_value p w)
+          → result_line (value_in g.shared.bases output rows 0 0) counts ≡ result_line (source_value p w) counts
       value_told law types rows counts left = ∥∥₁_elim bars (Prim.hlevel props) (λ t.
-          let typed : HasType (world_shared gs).bases output (source_value p (world_shared gs)) = types (declared_by p) (world_shared gs) [] [] p.body output t.typed.declared world_admissible tt (λ n a e. absurd (cc (e))) t.typed.typed in
-          let same : value_in (world_shared gs).bases output rows 0 0 ≡ source_value p (world_shared gs) =
-          ap (λ (ls : List (List ℕ)). value_in (world_shared gs).bases output ls 0 0) left ∙ law (world_shared gs).bases output (source_value p (world_shared gs)) (output_laid_out t).elements typed in
+          let typed : HasType g.shared.bases output (source_value p w) = types (declared_by p) w [] [] p.body output t.typed.declared ok.world tt (λ n a e. absurd (cc (e))) t.typed.typed in
+          let same : value_in g.shared.bases output rows 0 0 ≡ source_value p w =
+          ap (λ (ls : List (List ℕ)). value_in g.shared.bases output ls 0 0) left ∙ law g.shared.bases output (source_value p w) (output_laid_out t).elements typed in
           ap (λ (z : Value). result_line z counts) same)

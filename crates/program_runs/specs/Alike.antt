@@ -12,7 +12,7 @@ use Rattle.lift_tree.specs.Meaning.{World}
 use Rattle.lift_tree.specs.Programs.{PlainProgram}
 use Rattle.lift_tree.specs.Tree.{Tree}
 use Rattle.lift_tree.specs.Types.{PlainTy}
-use Rattle.lift_tree.specs.Typing.{IsAdmissible, declared_by}
+use Rattle.lift_tree.specs.Typing.{Declared, IsAdmissible}
 use Rattle.lowered_tree.specs.Copies.{CopiesArrays}
 use Rattle.lowered_tree.specs.Kinds.{asks_of}
 use Rattle.nest_premises.specs.Legal.{IsLegalTerm}
@@ -26,15 +26,16 @@ use Rattle.program_runs.specs.Started.{AreRunLines}
 
 -- any two kernels that are printed for one legal term, by the printer of its kind, with one local
 -- size or none, go alike at one launch and from the same contents: the same events can come, with
--- the same accesses, and each schedule makes the same run of both
+-- the same accesses, and each schedule makes the same run of both; so it is for a program's kernel
+-- and, with the outputs of those before it as inputs, for each of several in order
 abbrev pub PrintedKernelsGoAlike : Type 0
 PrintedKernelsGoAlike =
-    (p : PlainProgram) (local : Option ℕ) (t : Tree) (n : Annotation) (w : World) (l : Launch)
+    (d : Declared) (local : Option ℕ) (t : Tree) (n : Annotation) (w : World) (l : Launch)
     (k m : Kernel) (c : Cells) (s r : State)
-    → IsLegalTerm (declared_by p) t n → CopiesArrays t n → IsAdmissible (declared_by p) w
-    → IsLaunchOf (declared_by p) (asks_of local t) w.bases l → AreBuffersOf (declared_by p) w t n c
-    → PrintsBy (printer_for t) (declared_by p) local w.bases t n l k
-    → PrintsBy (printer_for t) (declared_by p) local w.bases t n l m
+    → IsLegalTerm d t n → CopiesArrays t n → IsAdmissible d w
+    → IsLaunchOf d (asks_of local t) w.bases l → AreBuffersOf d w t n c
+    → PrintsBy (printer_for t) d local w.bases t n l k
+    → PrintsBy (printer_for t) d local w.bases t n l m
     → IsStart k l c s → IsStart m l c r → SameContents l s r
     → GoesAlike (device_of k l c) s (device_of m l c) r
 

@@ -1,4 +1,5 @@
 pub mod Alike
+pub mod Costs
 pub mod Demo
 pub mod Runs
 pub mod Sequences

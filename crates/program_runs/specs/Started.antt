@@ -6,9 +6,9 @@ use Rattle.lowered_tree.specs.Kinds.{is_task}
 use Rattle.launch_file.specs.Judged.{Refuses}
 use Rattle.launch_file.specs.LaunchFile.{Given, IsLaunchFile}
 use Rattle.launch_file.specs.ResultLine.{result_line}
-use Rattle.launch_file.specs.Stages.{IsStagesFile, RefusesStages}
+use Rattle.launch_file.specs.Stages.{GivenInOrder, IsStagesFile, RefusesStages}
 use Rattle.launch_file.specs.declared.file.Ask.{Ask}
-use Rattle.launch_file.specs.declared.file.Ask.TheVariants.{Eval, Run}
+use Rattle.launch_file.specs.declared.file.Ask.TheVariants.{Cost, Eval, Run}
 use Rattle.launch_file.specs.declared.refusal.LaunchNo.{LaunchNo}
 use Rattle.fault_lines.specs.Failure.{Failure, launch_failed, source_failed}
 use Rattle.program_source.specs.Program.{IsRead, TypesOf, source_value}
@@ -26,13 +26,23 @@ abbrev pub LaunchOf : PlainProgram → Ask → (launch : List ℕ) → Result Gi
 LaunchOf p ask launch (Ok given) = IsLaunchFile p ask launch given
 LaunchOf p ask launch (Err why) = Refuses p ask launch why
 
--- what a run is given, or the first stage that stops: all of compilation, then the launch file, for
--- a task where the last term has no parallel map, and for the local size that the script fixes
-abbrev pub RunOf : PlainProgram → (script launch : List ℕ) → Result Given Failure → Type 0
-RunOf p script launch =
+-- what a launch file gives a compiled program, or the first stage that stops: all of compilation,
+-- then the launch file, for a task where the last term has no parallel map, and for the local size
+-- that the script fixes
+abbrev pub LaunchedOf : (ask : (task : Bool) → (local : Option ℕ) → Ask) → PlainProgram
+    → (script launch : List ℕ) → Result Given Failure → Type 0
+LaunchedOf ask p script launch =
     Then (As source_failed (LegalOf p script))
     (λ last. As (launch_failed p)
-    (LaunchOf p (Run (is_task last.tree) (local_fixed script)) launch))
+    (LaunchOf p (ask (is_task last.tree) (local_fixed script)) launch))
+
+-- what a run is given
+abbrev pub RunOf : PlainProgram → (script launch : List ℕ) → Result Given Failure → Type 0
+RunOf = LaunchedOf Run
+
+-- what a cost is given, which has no inputs and no schedule
+abbrev pub CostOf : PlainProgram → (script launch : List ℕ) → Result Given Failure → Type 0
+CostOf = LaunchedOf Cost
 
 -- what an evaluation is given, or the first stage that stops: the types, then the launch file
 abbrev pub EvalOf : PlainProgram → (launch : List ℕ) → Result Given Failure → Type 0
@@ -44,15 +54,15 @@ EvalOf p launch =
 abbrev pub asks_in_order : List Outline → (local : Option ℕ) → List Ask
 asks_in_order outlines local = map (λ (o : Outline). Run o.alone local) outlines
 
--- what a launch file gives to each kernel in order, or the first check that it fails
-abbrev pub LaunchesOf : PlainProgram → List Ask → (launch : List ℕ) → Result (List Given) LaunchNo
+-- what a launch file gives to kernels in order, or the first check that it fails
+abbrev pub LaunchesOf : PlainProgram → List Ask → (launch : List ℕ) → Result GivenInOrder LaunchNo
     → Type 0
-LaunchesOf p asks launch (Ok givens) = IsStagesFile p asks launch givens
+LaunchesOf p asks launch (Ok given) = IsStagesFile p asks launch given
 LaunchesOf p asks launch (Err why) = RefusesStages p asks launch why
 
 -- what the runs of kernels in order are given, or the first stage that stops: all of their
 -- compilation, then the launch file
-abbrev pub RunStagesOf : PlainProgram → (script launch : List ℕ) → Result (List Given) Failure
+abbrev pub RunStagesOf : PlainProgram → (script launch : List ℕ) → Result GivenInOrder Failure
     → Type 0
 RunStagesOf p script launch =
     Then (As source_failed (SequenceOf p script))
@@ -90,6 +100,6 @@ pub record IsRunStagesLine (program script launch line : List ℕ) : Type 0 wher
   pub outlines : List Outline
   pub text : List ℕ
   pub compiled : IsCompiledSequence program script source output local outlines text
-  pub givens : List Given
-  pub launch_file : IsStagesFile source (asks_in_order outlines local) launch givens
-  pub run : IsSequenceLine source outlines text givens line
+  pub given : GivenInOrder
+  pub launch_file : IsStagesFile source (asks_in_order outlines local) launch given
+  pub run : IsSequenceLine source outlines text given line

@@ -11,10 +11,11 @@ use Rattle.program_source.specs.Terms.{TermsOf}
 use Rattle.compilation.specs.Compiled.{IsCompiled}
 use Rattle.compilation.specs.Legal.{LegalOf}
 use Rattle.compilation.specs.Sequence.{IsCompiledSequence, Outline, SequenceOf}
+use Rattle.program_runs.specs.Costs.{AreCostLines}
 use Rattle.program_runs.specs.Demo.{IsDemoLine}
-use Rattle.program_runs.specs.Started.{AreRunLines, EvalOf, IsRunStagesLine, IsValueLine, RunOf, RunStagesOf}
+use Rattle.program_runs.specs.Started.{AreRunLines, CostOf, EvalOf, IsRunStagesLine, IsValueLine, RunOf, RunStagesOf}
 use Rattle.program_runs.specs.declared.command.Command.{Command}
-use Rattle.program_runs.specs.declared.command.Command.TheVariants.{Compile, Run, Eval, Steps, Stages, RunStages, Demo}
+use Rattle.program_runs.specs.declared.command.Command.TheVariants.{Compile, Run, Cost, Eval, Steps, Stages, RunStages, Demo}
 
 -- the text of this number, from 0; there is no text behind the last
 abbrev pub text_at : List (List ℕ) → ℕ → List ℕ
@@ -42,6 +43,8 @@ abbrev pub Writes : Command → (texts : List (List ℕ)) → (text : List ℕ) 
 Writes Compile texts text = IsKernelOf (text_at texts 0) (text_at texts 1) text
 Writes (Run traced) texts lines =
     AreRunLines (text_at texts 0) (text_at texts 1) (text_at texts 2) traced lines
+Writes (Cost items) texts lines =
+    AreCostLines (text_at texts 0) (text_at texts 1) (text_at texts 2) items lines
 Writes Eval texts line = IsValueLine (text_at texts 0) (text_at texts 1) line
 Writes Steps texts text = IsStepsText (text_at texts 0) (text_at texts 1) text
 Writes Stages texts text = IsSequenceOf (text_at texts 0) (text_at texts 1) text
@@ -55,6 +58,7 @@ abbrev pub stages_of : Command → (texts : List (List ℕ)) → PlainProgram �
     → Type 0
 stages_of Compile texts p = Passed (As source_failed (LegalOf p (text_at texts 1)))
 stages_of (Run traced) texts p = Passed (RunOf p (text_at texts 1) (text_at texts 2))
+stages_of (Cost items) texts p = Passed (CostOf p (text_at texts 1) (text_at texts 2))
 stages_of Eval texts p = Passed (EvalOf p (text_at texts 1))
 stages_of Steps texts p = Passed (As source_failed (TermsOf p (text_at texts 1)))
 stages_of Stages texts p = Passed (As source_failed (SequenceOf p (text_at texts 1)))

@@ -47,17 +47,17 @@ fn add_inputs(
     }
 }
 
-/// The lists of a launch file's inputs, as their buffers hold them.
+/// The lists of the inputs' values, as their buffers hold them.
 pub fn input_lists(
     alloc: Global,
     program: &Program,
-    file: &LaunchFile,
+    values: &[Val],
 ) -> Result<Vec<Vec<u32>>, AllocError>
     ensures { IfOk result (λ lists. map (λ l. l.items) lists.items
-        ≡ buffers_of (declared_by (program_of program.now)).inputs (given_by file.now).inputs) }
+        ≡ buffers_of (declared_by (program_of program.now)).inputs (map value_of values.now)) }
 {
     let mut lists = Vec::new(alloc);
-    add_inputs(alloc, &program.inputs, &file.inputs, &mut lists)?;
+    add_inputs(alloc, &program.inputs, values, &mut lists)?;
     Ok(lists)
 }
 
@@ -69,7 +69,7 @@ pub fn begun(alloc: Global, compiled: &Compiled, file: &LaunchFile) -> Result<Ce
     ensures { IfOk result (λ cells. cells ≡ begun (program_of compiled.now.program)
         (ty_of compiled.now.output) (world_given (given_by file.now))) }
 {
-    let ins = input_lists(alloc, &compiled.program, file)?;
+    let ins = input_lists(alloc, &compiled.program, &file.inputs)?;
     let outs = blank_lists(alloc, &compiled.output, &file.sizes)?;
     Ok(Cells { ins, outs, rest: 0 })
 }

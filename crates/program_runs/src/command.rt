@@ -12,6 +12,7 @@ ghost use Rattle.compilation.specs.Sequence.{SequenceOf};
 ghost use Rattle.program_runs.specs.Table as table;
 ghost use Rattle.program_runs.specs.Table.{IsKernelOf, IsSequenceOf, Stops, Writes};
 
+use crate::cost::cost_text;
 use crate::demo::demo_text;
 use crate::eval::eval_text;
 use crate::run::run_text;
@@ -28,6 +29,9 @@ pub enum Command {
     Compile,
     /// The run of that kernel as a launch file says, with its events where they are traced.
     Run { trace: bool },
+    /// The loads, stores and releases of every run of that kernel at a launch file's launch, with
+    /// those of each work-item where they are asked for.
+    Cost { items: bool },
     /// The value of a program at a launch file's sizes and inputs.
     Eval,
     /// What each step of a script makes of a program.
@@ -93,6 +97,7 @@ pub fn command_text(alloc: Global, command: Command, texts: &[Vec<u8>]) -> Resul
     match command {
         Command::Compile => kernel_text(alloc, first, second),
         Command::Run { trace } => run_text(alloc, first, second, text_at(texts, 2), trace),
+        Command::Cost { items } => cost_text(alloc, first, second, text_at(texts, 2), items),
         Command::Eval => eval_text(alloc, first, second),
         Command::Steps => step_lines(alloc, first, second),
         Command::Stages => sequence_text(alloc, first, second),

@@ -4,6 +4,7 @@
 
 mod cells;
 mod command;
+mod cost;
 mod demo;
 mod eval;
 mod laws;
@@ -11,6 +12,6 @@ mod run;
 mod sequence;
 
 pub use command::{Command, command_text};
-pub use laws::{one_end, printed_kernels_go_alike, texts_run_alike};
+pub use laws::{one_end, printed_kernels_go_alike, texts_have_costs, texts_run_alike};
 pub use run::run_launch;
 pub use sequence::run_sequence;

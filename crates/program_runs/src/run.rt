@@ -51,10 +51,7 @@ fn read_back(alloc: Global, compiled: &Compiled) -> Result<Kernel, AllocError>
 }
 
 // The launch once more.
-pub(crate) fn copied(
-    alloc: Global,
-    launch: &launches::Launch,
-) -> Result<launches::Launch, AllocError>
+fn copied(alloc: Global, launch: &launches::Launch) -> Result<launches::Launch, AllocError>
     ensures { IfOk result (λ copy. copy ≡ launch.now) }
 {
     Ok(launches::Launch {

@@ -10,27 +10,26 @@ ghost use Rattle.lift_tree.specs.Launches.{buffers_of, lists_of};
 ghost use Rattle.lift_tree.specs.Programs.{program_of};
 ghost use Rattle.lift_tree.specs.Types.{ty_of};
 ghost use Rattle.lift_tree.specs.Typing.{declared_by};
-ghost use Rattle.launch_file.specs.LaunchFile.{given_by};
+ghost use Rattle.launch_file.specs.StagesShown.{count_of, given_in_order, shared_of};
 ghost use Rattle.fault_lines.specs.Shown.{failure_of};
 ghost use Rattle.program_source.specs.Ends.{FailsFor, IsFailedFor, OnSource};
 ghost use Rattle.program_source.specs.Program.{source_value};
 ghost use Rattle.compilation.specs.Sequence.{outline_of};
-ghost use Rattle.program_runs.specs.Sequences.{AreAdmissibleFor, AreRunInTurn, IsSequenceLine, world_shared};
+ghost use Rattle.program_runs.specs.Sequences.{AreAdmissibleFor, AreRunInTurn, IsSequenceLine, launch_at, world_in};
 ghost use Rattle.program_runs.specs.Started.{IsRunStagesLine, RunStagesOf, asks_in_order};
 
 use crate::cells::{begun_from, input_lists};
 use crate::laws::one_end;
-use crate::run::copied;
 use compilation::{CompiledSequence, KernelOutline, compile_sequence};
 use fault_lines::Failure;
 use kernel_reader::{KernelNo, read_sequence};
 use kernel_spelling::texts_are_of_one_sequence;
-use kernel_tree::launches::Cells;
+use kernel_tree::launches::{Cells, Launch};
 use kernel_tree::laws::inputs_stay;
 use kernel_tree::tree::Kernel;
-use launch_file::file::{Ask, LaunchFile};
+use launch_file::file::Ask;
 use launch_file::result::listed_text;
-use launch_file::stages::read_stages;
+use launch_file::stages::{Count, Shared, StagesFile, read_stages};
 use lift_tree::laws::values_have_their_types;
 use ndrange_device::{DeviceNo, Outcome, launch};
 use program_source::laws::typed_programs_are_proper;
@@ -48,23 +47,36 @@ fn read_back(alloc: Global, compiled: &CompiledSequence) -> Result<Vec<Kernel>, 
     }
 }
 
-// What a run of a kernel leaves under the schedule of its launch file, from its beginning.
+// The launch of so many work-items in a row, at these sizes.
+fn launch_at(alloc: Global, sizes: &[u32], count: Count) -> Result<Launch, AllocError>
+    ensures { IfOk result (λ l. l ≡ launch_at sizes.now (count_of count)) }
+{
+    Ok(Launch {
+        global: (count.global, 1),
+        local: (count.local, 1),
+        sizes: sizes.to_vec(alloc)?,
+    })
+}
+
+// What a run of a kernel leaves at so many work-items, under the schedule from its beginning.
 fn run_kernel(
     alloc: Global,
     kernel: Kernel,
-    file: &LaunchFile,
+    shared: &Shared,
+    count: Count,
     cells: Cells,
 ) -> Result<Outcome, AllocError>
-    requires may_start { shown.MayStart (kernel_of kernel) (given_by file.now).launch cells }
+    requires may_start { shown.MayStart (kernel_of kernel)
+        (launch_at (shared_of shared.now).sizes (count_of count)) cells }
     requires clean { (kind : FaultKind) (event item : ℕ) (cell : Option Cell)
-        → ¬ FaultsUnder (given_by file.now).schedule (kernel_of kernel) (given_by file.now).launch
-        cells kind event item cell }
-    ensures { IfOk result (λ ran. EndsUnder (given_by file.now).schedule (kernel_of kernel)
-        (given_by file.now).launch cells (map (λ row. row.items) ran.outputs.items)
-        ran.events ran.releases) }
+        → ¬ FaultsUnder (shared_of shared.now).schedule (kernel_of kernel)
+        (launch_at (shared_of shared.now).sizes (count_of count)) cells kind event item cell }
+    ensures { IfOk result (λ ran. EndsUnder (shared_of shared.now).schedule (kernel_of kernel)
+        (launch_at (shared_of shared.now).sizes (count_of count)) cells
+        (map (λ row. row.items) ran.outputs.items) ran.events ran.releases) }
 {
-    let at = copied(alloc, &file.launch)?;
-    match launch(alloc, kernel, at, cells, &file.schedule, None) {
+    let at = launch_at(alloc, &shared.sizes, count)?;
+    match launch(alloc, kernel, at, cells, &shared.schedule, None) {
         Ok(ran) => Ok(ran),
         Err(DeviceNo::Memory) => Err(AllocError),
         Err(DeviceNo::Fault { .. }) => unreachable!(),
@@ -90,21 +102,24 @@ fn run_in_turn(
     alloc: Global,
     compiled: &CompiledSequence,
     kernels: Vec<Kernel>,
-    files: &[LaunchFile],
+    shared: &Shared,
+    counts: &[Count],
     inputs: Vec<Vec<u32>>,
 ) -> Result<Outcome, AllocError>
     requires read { IsSequenceText compiled.now.text.items (map kernel_of kernels.items) }
     requires admissible { AreAdmissibleFor (program_of compiled.now.program) compiled.now.local
-        (map outline_of compiled.now.outlines.items) (map given_by files.now) }
+        (map outline_of compiled.now.outlines.items)
+        (record { shared = shared_of shared.now; counts = map count_of counts.now }) }
     requires inputs { map (λ l. l.items) inputs.items
         ≡ buffers_of (declared_by (program_of compiled.now.program)).inputs
-        (world_shared (map given_by files.now)).inputs }
-    ensures run { IfOk result (λ ran. AreRunInTurn (map (λ l. l.items) inputs.items)
-        (map kernel_of kernels.items) (map outline_of compiled.now.outlines.items)
-        (map given_by files.now) ran.events ran.releases) }
+        (shared_of shared.now).inputs }
+    ensures run { IfOk result (λ ran. AreRunInTurn (shared_of shared.now)
+        (map (λ l. l.items) inputs.items) (map kernel_of kernels.items)
+        (map outline_of compiled.now.outlines.items) (map count_of counts.now)
+        ran.events ran.releases) }
     ensures left { IfOk result (λ ran. map (λ l. l.items) ran.outputs.items
         ≡ lists_of (ty_of compiled.now.output) (source_value (program_of compiled.now.program)
-        (world_shared (map given_by files.now)))) }
+        (world_in (shared_of shared.now)))) }
 {
     inputs_stay();
     texts_are_of_one_sequence();
@@ -115,15 +130,11 @@ fn run_in_turn(
         releases: 0,
     };
     for (number, kernel) in kernels.into_iter().enumerate() {
-        let file = &files[number];
+        let count = &counts[number];
         inputs.append(&mut ran.outputs)?;
-        let cells = begun_from(
-            alloc,
-            &inputs,
-            &compiled.outlines[number].output,
-            &file.sizes,
-        )?;
-        ran = followed(&ran, run_kernel(alloc, kernel, file, cells)?);
+        let output = &compiled.outlines[number].output;
+        let cells = begun_from(alloc, &inputs, output, &shared.bases)?;
+        ran = followed(&ran, run_kernel(alloc, kernel, shared, *count, cells)?);
     }
     Ok(ran)
 }
@@ -135,24 +146,29 @@ fn run_in_turn(
 pub fn run_sequence(
     alloc: Global,
     compiled: &CompiledSequence,
-    files: &[LaunchFile],
+    file: &StagesFile,
 ) -> Result<Vec<u8>, AllocError>
     requires { AreAdmissibleFor (program_of compiled.now.program) compiled.now.local
-        (map outline_of compiled.now.outlines.items) (map given_by files.now) }
+        (map outline_of compiled.now.outlines.items) (given_in_order file.now) }
     ensures { IfOk result (λ line. IsSequenceLine (program_of compiled.now.program)
-        (map outline_of compiled.now.outlines.items) compiled.now.text.items (map given_by files.now)
-        line.items) }
+        (map outline_of compiled.now.outlines.items) compiled.now.text.items
+        (given_in_order file.now) line.items) }
 {
     components_are_counted();
     lists_hold_one_value();
     texts_are_of_one_sequence();
     values_have_their_types();
     let kernels = read_back(alloc, compiled)?;
-    let first = &files[0];
-    let inputs = input_lists(alloc, &compiled.program, first)?;
-    let ran = run_in_turn(alloc, compiled, kernels, files, inputs)?;
+    let inputs = input_lists(alloc, &compiled.program, &file.shared.inputs)?;
+    let ran = run_in_turn(alloc, compiled, kernels, &file.shared, &file.counts, inputs)?;
     let counts = Some((ran.events, ran.releases));
-    listed_text(alloc, &compiled.output, &first.sizes, &ran.outputs, counts)
+    listed_text(
+        alloc,
+        &compiled.output,
+        &file.shared.bases,
+        &ran.outputs,
+        counts,
+    )
 }
 
 // How the launch of each kernel is asked for.
@@ -196,7 +212,7 @@ pub fn run_stages_text(
     let compiled = compile_sequence(alloc, program, script)?;
     let asks = launch_asks(alloc, &compiled.outlines, compiled.local)?;
     match read_stages(alloc, launch, &compiled.program, &asks) {
-        Ok(files) => Ok(run_sequence(alloc, &compiled, &files)?),
+        Ok(file) => Ok(run_sequence(alloc, &compiled, &file)?),
         Err(no) => Err(Failure::for_launch(compiled.program, no)),
     }
 }

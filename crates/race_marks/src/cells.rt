@@ -51,7 +51,7 @@ impl CellMarks {
         Ok(CellMarks {
             groups,
             outputs: Tracked::new(alloc, rows_of(alloc, outs)?, groups)?,
-            locals: Tracked::new(alloc, rows_for(alloc, locals, groups)?, groups)?,
+            locals: Tracked::new(alloc, Rows::of_lengths(alloc, groups, locals)?, groups)?,
         })
     }
 
@@ -122,17 +122,6 @@ fn rows_of(alloc: Global, cells: &[Vec<u32>]) -> Result<Rows, AllocError>
     let mut rows = Rows::new(alloc, 1);
     for row in cells {
         rows.push(row.len())?;
-    }
-    Ok(rows)
-}
-
-// Rows of these lengths, once for each of so many homes.
-fn rows_for(alloc: Global, lengths: &[u32], homes: u32) -> Result<Rows, AllocError>
-    ensures { IfOk result (λ r. r ≡ record { homes = homes; lengths = lengths.now }) }
-{
-    let mut rows = Rows::new(alloc, homes);
-    for length in lengths {
-        rows.push(*length as usize)?;
     }
     Ok(rows)
 }

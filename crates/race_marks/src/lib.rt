@@ -6,7 +6,8 @@
 #![tactic(auto)]
 
 pub mod cells;
+pub mod filled;
 pub mod laws;
 pub mod marks;
-mod rows;
+pub mod rows;
 mod tracked;

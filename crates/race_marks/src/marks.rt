@@ -7,6 +7,7 @@ ghost use Rattle.race_marks.specs.Marks as told;
 ghost use Rattle.race_marks.specs.Held.{lately_of, in_group, mark_at, mark_of, swept_mark, IsKept, Notes, View};
 ghost use Rattle.race_marks.specs.declared.marks.Lately.TheVariants as lately;
 
+use crate::filled::Filled;
 use std::alloc::{AllocError, Global};
 use std::marker::Model;
 
@@ -58,7 +59,7 @@ pub struct Mark {
 /// The marks of cells whose accesses one flag orders, and the epochs of the groups.
 #[derive(Drop)]
 pub struct Marks {
-    marks: Vec<Mark>,
+    marks: Filled<Mark>,
     epochs: Vec<u16>,
 }
 
@@ -67,10 +68,10 @@ impl Model for Marks {
 
     ghost view = { λ m. record {
       groups = length m.epochs.items;
-      marks = map (mark_of m.epochs.items) m.marks.items;
+      marks = map (mark_of m.epochs.items) m.marks;
     } };
 
-    ghost invariant = { λ m. All (IsKept m.epochs.items) m.marks.items };
+    ghost invariant = { λ m. All (IsKept m.epochs.items) m.marks };
 }
 
 impl Marks {
@@ -89,7 +90,7 @@ impl Marks {
             group: 0,
             epoch: 0,
         };
-        let marks = vec![in alloc; untouched; cells]?;
+        let marks = Filled::new(alloc, cells, untouched)?;
         let epochs = vec![in alloc; 1u16; groups]?;
         Ok(Marks { marks, epochs })
     }
@@ -108,9 +109,13 @@ impl Marks {
               touch.group touch.item touch.writes);
         } }
     {
-        match noted(self.marks[cell], self.epochs[touch.group as usize], touch) {
+        match noted(
+            self.marks.get(cell),
+            self.epochs[touch.group as usize],
+            touch,
+        ) {
             Some(mark) => {
-                self.marks[cell] = mark;
+                self.marks.set(cell, mark);
                 false
             }
             None => true,
@@ -270,12 +275,15 @@ fn touched_in_group(written: bool) -> Touched
     }
 }
 
-// The marks of a group get epoch 0, which is before each.
-fn sweep(marks: &mut [Mark], group: u32)
+// The marks of a group get epoch 0, which is before each. Those that have it stay.
+fn sweep(marks: &mut Filled<Mark>, group: u32)
     ensures { marks.new ≡ map (swept_mark group) marks.old }
 {
-    for mark in marks.iter_mut() {
-        *mark = swept(*mark, group);
+    for cell in 0..marks.len() {
+        let mark = marks.get(cell);
+        if mark.epoch > 0 {
+            marks.set(cell, swept(mark, group));
+        }
     }
 }
 

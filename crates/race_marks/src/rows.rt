@@ -1,24 +1,24 @@
 //! Rows of cells in one list.
 
-ghost use Rattle.std.specs.Prelude.{◌≡◌, ◌+◌, ◌*◌, ◌^◌, ◌<◌, ◌∷◌, ◌++◌, ℕ, [], Some, None, length, map, if◌then◌else◌, OnOk};
-ghost use Rattle.race_marks.specs.Rows.{Shape, AreLaid, cell_count, is_placed, place_at};
+ghost use Rattle.std.specs.Prelude.{◌≡◌, ◌+◌, ◌*◌, ◌^◌, ◌<◌, ◌∷◌, ◌++◌, ℕ, [], Some, None, length, map, if◌then◌else◌, IfOk, OnOk};
+ghost use Rattle.race_marks.specs.Rows.{Shape, AreLaid, ArePlaced, cell_count, is_placed, place_at};
 
 use std::alloc::{AllocError, Global};
 use std::marker::Model;
 
-/// A row: where it begins, and how many cells it has.
+/// A row: how many cells of its home come before it, and how many it has.
 #[derive(Clone, Copy)]
 pub struct Row {
     pub start: usize,
     pub length: usize,
 }
 
-/// Rows of cells one after another, each cell once for each of so many homes.
+/// Rows of cells one after another, once for each of so many homes, one home after another.
 #[derive(Drop)]
 pub struct Rows {
     homes: u32,
     rows: Vec<Row>,
-    cells: usize,
+    width: usize,
 }
 
 impl Model for Rows {
@@ -29,7 +29,7 @@ impl Model for Rows {
       lengths = map (λ row. row.length) r.rows.items;
     } };
 
-    ghost invariant = { λ r. AreLaid r.homes r.rows.items r.cells };
+    ghost invariant = { λ r. AreLaid r.homes r.rows.items r.width };
 }
 
 impl Rows {
@@ -40,8 +40,19 @@ impl Rows {
         Rows {
             homes,
             rows: Vec::new(alloc),
-            cells: 0,
+            width: 0,
         }
+    }
+
+    /// Rows of these lengths.
+    pub fn of_lengths(alloc: Global, homes: u32, lengths: &[u32]) -> Result<Rows, AllocError>
+        ensures { IfOk result (λ r. r ≡ record { homes = homes; lengths = lengths.now }) }
+    {
+        let mut rows = Rows::new(alloc, homes);
+        for length in lengths {
+            rows.push(*length as usize)?;
+        }
+        Ok(rows)
     }
 
     /// One row more, of so many cells.
@@ -51,12 +62,12 @@ impl Rows {
           lengths = self.old.lengths ++ length ∷ [];
         }) }
     {
-        let start = self.cells;
-        let Some(cells) = cells_after(start, length, self.homes) else {
+        let start = self.width;
+        let Some(width) = width_with(start, length, self.homes) else {
             return Err(AllocError);
         };
         self.rows.push(Row { start, length })?;
-        self.cells = cells;
+        self.width = width;
         Ok(())
     }
 
@@ -64,7 +75,7 @@ impl Rows {
     pub fn cells(&self) -> usize
         ensures { result ≡ cell_count self.now }
     {
-        self.cells
+        self.homes as usize * self.width
     }
 
     /// The place in the list of a cell of a row at a home.
@@ -75,16 +86,23 @@ impl Rows {
     {
         let row = self.rows.get(row as usize)?;
         if home < self.homes && (index as usize) < row.length {
-            Some(row.start + (index as usize * self.homes as usize + home as usize))
+            Some(home as usize * self.width + (row.start + index as usize))
         } else {
             None
         }
     }
 }
 
-// So many cells, and a row more; none where that passes what memory may hold.
-fn cells_after(cells: usize, length: usize, homes: u32) -> Option<usize>
-    ensures { (n : ℕ) → result ≡ Some n → (n ≡ cells + length * homes) × (n < 2 ^ 64) }
+/// Each cell of rows has a place among all, and no other has it.
+pub fn places_apart()
+    ensures { (v : Shape) → ArePlaced v }
+{}
+
+// So many cells in a home, and a row more; none where all homes then pass what memory may hold.
+fn width_with(width: usize, length: usize, homes: u32) -> Option<usize>
+    ensures { (n : ℕ) → result ≡ Some n → (n ≡ width + length) × (homes * n < 2 ^ 64) }
 {
-    length.checked_mul(homes as usize)?.checked_add(cells)
+    let wider = width.checked_add(length)?;
+    let _all = wider.checked_mul(homes as usize)?;
+    Some(wider)
 }

@@ -5,7 +5,7 @@ use std::alloc::Global;
 use std::test::Fail;
 
 // A term, a script, and the last term of the script.
-const ALGEBRA: [(&str, &str, &str); 28] = [
+const ALGEBRA: [(&str, &str, &str); 30] = [
     (
         "map(\\y. add(y, 1), map(\\x. mul(x, 2), xs))",
         "at . fuse-map",
@@ -81,6 +81,17 @@ const ALGEBRA: [(&str, &str, &str); 28] = [
         "stride(M*N, cube)",
         "at . stride-layout",
         "join(transpose(split(N*M, cube)))",
+    ),
+    // by three factors
+    (
+        "stride(N*2*M, cube)",
+        "at . stride-layout",
+        "join(transpose(split(2*N*M, cube)))",
+    ),
+    (
+        "map(\\x. add(x, 1), stride(M*2*N, cube))",
+        "at . map-stride",
+        "stride(2*N*M, map(\\_0. add(_0, 1), cube))",
     ),
     (
         "stride(1, rows)",

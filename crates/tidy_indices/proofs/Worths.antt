@@ -1,9 +1,9 @@
 -- By the laws that know of no loop, an expression keeps its value on words, also where something in
 -- it wraps: one lemma a law.
-use Rattle.std.proofs.Common.{◌≡◌, ◌≢◌, ℕ, zero, suc, ◌+◌, ◌-◌, ◌*◌, ◌/◌, ◌%◌, ◌^◌, ◌<◌, ◌≤◌, Bool, true, false, Option, Some, None, List, [], refl, sym, ap, ◌∙◌, subst, arith}
+use Rattle.std.proofs.Common.{◌≡◌, ◌≢◌, ℕ, zero, suc, ◌+◌, ◌-◌, ◌*◌, ◌/◌, ◌%◌, ◌^◌, ◌<◌, ◌≤◌, Bool, true, false, Option, Some, None, List, [], refl, sym, ap, ◌∙◌, subst, ⊎_elim, arith}
 use Rattle.std.specs.Prelude.{◌==◌, ◌&&◌, ◌||◌, nat_lt, nat_le, is_some, unwrap_or, option_map, if◌then◌else◌, slice_get, slice_index, replicate}
 use Rattle.std.proofs.Math.Nat.{mod-lt, mod-le, mod-eq_of_lt, div-le_self, div-add-mod, mul_assoc, mul_comm, div-one, mod-one}
-use Rattle.std.proofs.lemmas.Bool.{and_parts, eqb-true, eq-eqb, ne_eqb, ltb-true, leb-true}
+use Rattle.std.proofs.lemmas.Bool.{and_from, and_parts, or_cases, eqb-true, eq-eqb, ne_eqb, ltb-true, leb-true}
 use Rattle.std.proofs.lemmas.Option.{same_Some}
 use Rattle.index_expr.specs.declared.operation.Operation.{Operation}
 use Rattle.index_expr.specs.declared.operation.Operation.TheVariants.{Sum, Difference, Product, Quotient, Remainder, Least, Greatest}
@@ -19,13 +19,13 @@ use Rattle.index_simplify.specs.declared.law.Law.{Law}
 use Rattle.index_simplify.specs.declared.law.Law.TheVariants as law
 use Rattle.index_simplify.specs.declared.law.TheConstants.{LAWS}
 use Rattle.index_simplify.specs.Literals.{word, difference, computed_from, computed_with, computed}
-use Rattle.index_simplify.specs.Tests.{same_operation, same_variable, is_number, same_size, same, is_above, is_at_least, is_below, is_begin, is_cell, is_quotient, is_rounded, are_parts, is_known_multiple, is_multiple, is_part_of, is_base, is_part_base, is_whole_size, is_scaled_size}
+use Rattle.index_simplify.specs.Tests.{same_operation, same_variable, is_number, same_size, same, is_above, is_at_least, is_below, is_count, is_zero_beside, is_begin, is_cell, is_quotient, is_rounded, are_parts, is_known_multiple, is_multiple, is_part_of, is_base, is_part_base, is_whole_size, is_scaled_size}
 use Rattle.index_simplify.specs.Laws.{first_part, scaled, applies, applied}
 use Rattle.index_simplify.specs.Operations.{first_law, by_law, tabled, recut, simple}
 use Rattle.index_simplify.specs.Factors.{over}
 use Rattle.index_simplify.specs.Below.{is_natural, is_passed, is_quotient_below, is_remainder_below, is_digit_below, rows_within, is_sum_below, stays_below}
 use Rattle.index_simplify.specs.Cells as cells
-use Rattle.index_simplify.specs.Cells.{natural_over, cell_over, sum_over, sum_modulo, rows_around, remainder_over, remainder_modulo, quotient_of, remainder_of, part_of, parted_operation, parted}
+use Rattle.index_simplify.specs.Cells.{natural_over, cell_over, cell_modulo, sum_over, sum_modulo, rows_around, remainder_over, remainder_modulo, quotient_of, remainder_of, part_of, parted_operation, parted}
 use Rattle.index_simplify.specs.Ranges.{AreMultiples}
 use Rattle.index_simplify.specs.Simplified.{HasWordLiterals}
 use Rattle.index_simplify.specs.Promises.{SameOperationsAreEqual}
@@ -255,6 +255,12 @@ parts_are : SameOperationsAreEqual → (a b : Expression) → are_parts a b ≡ 
 parts_are equal a (Binary Remainder d m) h = rounded_is equal a d m h
 parts_are equal a _ h = absurd (cc h)
 
+-- ---- one of the two is 0
+beside_zero : (o p : Operation) (nothing other : Expression) → (same_operation o p && is_zero_beside nothing other) ≡ true → (same_operation o p && is_number 0 nothing) ≡ true
+beside_zero o p nothing other h =
+    let parts = and_parts (same_operation o p) (is_zero_beside nothing other) h in
+    and_from (same_operation o p) (is_number 0 nothing) parts.0 (and_parts (is_number 0 nothing) (is_count 3 other) parts.1).0
+
 -- ---- no variable that may be any word stays below a word
 filled : (k n : ℕ) → slice_index (replicate (suc k) n) k ≡ n
 filled zero n = refl
@@ -334,7 +340,7 @@ module _ (facts : Known) (multiples : List ℕ) where
   no_sum_over _ column n wide x y = refl
 
   no_sum_modulo : (begin column n : Expression) → AreWide column → HasWordLiterals begin → HasWordLiterals column → sum_modulo Sizes begin column n ≡ None
-  no_sum_modulo (Binary Product row width) column n wide x y = unless (is_natural n && cells.is_cell Sizes row width column) _ (λ h. no_cell row width column wide y x.1 (and_parts (is_natural n) (cells.is_cell Sizes row width column) h).1)
+  no_sum_modulo (Binary Product row width) column n wide x y = unless (cells.is_cell Sizes row width column) (cell_modulo row width column n) (no_cell row width column wide y x.1)
   no_sum_modulo _ column n wide x y = refl
 
   no_rows : (begin column m n : Expression) → AreWide column → HasWordLiterals begin → HasWordLiterals column → rows_around Sizes begin column m n ≡ None
@@ -365,6 +371,7 @@ module _ (facts : Known) (multiples : List ℕ) where
 
   no_part : (o : Operation) (a b : Expression) → AreWide a → AreWide b → HasWordLiterals a → HasWordLiterals b → part_of Sizes o a b ≡ None
   no_part Sum a b wide second x y = unless (stays_below Sizes b (Literal 1)) (Some a) (stays_nowhere b (Literal 1) second y (omega arith))
+  no_part Product a b wide second x y = unless (stays_below Sizes a (Literal 1) || stays_below Sizes b (Literal 1)) (Some (Literal 0)) (λ h. ⊎_elim (stays_nowhere a (Literal 1) wide x (omega arith)) (stays_nowhere b (Literal 1) second y (omega arith)) (or_cases (stays_below Sizes a (Literal 1)) (stays_below Sizes b (Literal 1)) h))
   no_part Quotient a b wide second x y = otherwise (stays_below Sizes a b) (Some (Literal 0)) (quotient_of Sizes a b) (stays_nowhere a b wide x y) (no_quotient_of a b wide x)
   no_part Remainder a b wide second x y = otherwise (stays_below Sizes a b) (Some a) (remainder_of Sizes a b) (stays_nowhere a b wide x y) (no_remainder_of a b wide x)
   no_part _ a b wide second x y = refl
@@ -555,6 +562,10 @@ module _ (facts : Known) (multiples : List ℕ) where
     law_worth law.RowOfCell o a b n x y wide h w = absurd (not_cell a b wide y (and_parts (same_operation o Quotient) (is_cell Sizes a b) h).1)
     law_worth law.ColumnOfCell o a b n x y wide h w = absurd (not_cell a b wide y (and_parts (same_operation o Remainder) (is_cell Sizes a b) h).1)
     law_worth law.CellOfParts o a b n x y wide h w = parts_worth o a b n x h w
+    law_worth law.GreatestZero o a b n x y wide h w = keeps_second o Greatest 0 n a b x (λ z lt. omega arith) (beside_zero o Greatest b a h) w
+    law_worth law.ZeroGreatest o a b n x y wide h w = keeps_first o Greatest 0 n a b y (λ z lt. omega arith) (beside_zero o Greatest a b h) w
+    law_worth law.LeastZero o a b n x y wide h w = gives_second o Least 0 0 n a b (λ z. omega arith) (beside_zero o Least b a h) w
+    law_worth law.ZeroLeast o a b n x y wide h w = gives_first o Least 0 0 n a b (λ z. omega arith) (beside_zero o Least a b h) w
 
     tabled_wide : (e : Expression) → AreWide e → AreWide (tabled Sizes e)
     tabled_wide e wide turns fit = ((facts.tabled Sizes e).stands ids.sizes turns (record { loops = λ k n h. absurd (cc h); multiples = all; own = wide turns fit })).own

@@ -55,7 +55,8 @@ fn two_maps_are_two_kernels(rt: HostRuntime) -> Result<(), Fail> {
     Ok(())
 }
 
-// A launch file's other keys are passed over; the schedule is begun anew for each kernel.
+// A launch file's other keys are passed over, and every schedule leads to the same line: that each
+// kernel begins it anew is proved, and shows in none.
 const RUN_ALIKE: [&str; 3] = [
     "{\"global\":7,\"local\":[],\"launches\":[{\"global\":2,\"local\":1,\"name\":0},{\"global\":2,\"local\":1}],\"sizes\":{},\"inputs\":{\"xs\":[1,2,3,4]}}",
     "{\"launches\":[{\"global\":2,\"local\":2},{\"global\":2,\"local\":1}],\"sizes\":{},\"inputs\":{\"xs\":[1,2,3,4]},\"schedule\":[1,0,1]}",

@@ -4,6 +4,8 @@
 #[cfg(test)]
 mod call;
 #[cfg(test)]
+mod costs;
+#[cfg(test)]
 mod demo;
 #[cfg(test)]
 mod groups;

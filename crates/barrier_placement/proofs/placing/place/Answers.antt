@@ -1,5 +1,6 @@
 use Rattle.std.proofs.Common.{◌≡◌, ◌+◌, ◌∙◌, ap, arith}
 use Rattle.barrier_placement.proofs.Steps.{Reached, started, stepped_on, stepped, left_open, closed_off, Placed}
+use Rattle.barrier_placement.proofs.Aligned.{none_needed}
 use Rattle.barrier_placement.proofs.placing.place.Goals as goal
 use Rattle.barrier_placement.proofs.placing.place.Goals.{in-Some+in_ok-push, in_default, in-Some-last_barrier+in_ok-push-2, in_default-last_barrier}
 
@@ -35,3 +36,6 @@ returns-clause-in_order c = (placed c).in_order
 
 pub returns-clause-pairs : goal.returns-clause-pairs
 returns-clause-pairs c = (placed c).pairs
+
+pub returns-then-are_aligned-clause-needed : goal.returns-then-are_aligned-clause-needed
+returns-then-are_aligned-clause-needed c = none_needed c.args.touches.now (c.are_aligned.ensures c.if-are_aligned.true) c.args.once c.args.phases c.new-barriers.result.items c.new-barriers.ensures.items

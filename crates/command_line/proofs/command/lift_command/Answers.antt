@@ -1,6 +1,6 @@
 use Rattle.std.proofs.Common.{ap₂, ◌≡◌, ◌∙◌, Bor, List, [], ◌∷◌, map, rules}
 use Rattle.std.proofs.lemmas.Result.{IfOk-weaker}
-use Rattle.clap.specs.Words.{App, Text, app_of, with_subcommand}
+use Rattle.clap.specs.Words.{App, Text, with_subcommand}
 use Rattle.command_line.specs.App.{kernel_commands, launch, program, script, seed, words_command}
 use Rattle.command_line.proofs.command.lift_command.Goals as goal
 

@@ -4,7 +4,7 @@ use Rattle.lift_tree.specs.Annotations.{One, Two, annotation_of, type_in}
 use Rattle.lift_tree.specs.Tree.{Let, Map, Unary, tree_of}
 use Rattle.lift_tree.specs.Types.{ty_of, is_element}
 use Rattle.lift_ir.specs.Lowering.{kind_of}
-use Rattle.output_owner.specs.Bases.{bases_of}
+use Rattle.launch_lengths.specs.Bases.{bases_of}
 use Rattle.output_owner.specs.Owners.{HaveOneOwner, map_over, position, written}
 use Rattle.output_owner.specs.Written.{IsScalarOf}
 use Rattle.output_owner.proofs.Through.{FoundOn, NoneOn, Steps, found_on, is_no_layout, map_body, map_found, of_bound_element, of_element, of_component, of_equal, of_no_layout, scalar_on, step_of, through, through_let}

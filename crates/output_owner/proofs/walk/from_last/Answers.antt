@@ -1,7 +1,7 @@
 use Rattle.lift_ir.specs.AtLaunch.{length_at, ty_at}
 use Rattle.lift_ir.specs.Types.{size}
 use Rattle.lift_tree.specs.Types.{ty_of}
-use Rattle.output_owner.specs.Bases.{bases_of}
+use Rattle.launch_lengths.specs.Bases.{bases_of}
 use Rattle.output_owner.proofs.Rows.{told_turned}
 use Rattle.output_owner.proofs.walk.from_last.Goals as goal
 

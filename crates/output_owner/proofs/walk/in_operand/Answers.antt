@@ -1,7 +1,7 @@
 use Rattle.std.proofs.Common.{◌∙◌}
 use Rattle.lift_tree.specs.Meaning.{product_at}
 use Rattle.lift_tree.specs.Types.{ty_of}
-use Rattle.output_owner.specs.Bases.{bases_of}
+use Rattle.launch_lengths.specs.Bases.{bases_of}
 use Rattle.output_owner.proofs.Factors.{in_32_bits}
 use Rattle.output_owner.proofs.walk.in_operand.Goals as goal
 

@@ -2,7 +2,7 @@ use Rattle.std.proofs.Common.{arith}
 use Rattle.lift_ir.specs.AtLaunch.{length_at, ty_at}
 use Rattle.lift_ir.specs.Types.{size}
 use Rattle.lift_tree.specs.Types.{ty_of}
-use Rattle.output_owner.specs.Bases.{bases_of}
+use Rattle.launch_lengths.specs.Bases.{bases_of}
 use Rattle.output_owner.proofs.Rows.{told_strided}
 use Rattle.output_owner.proofs.walk.in_steps.Goals as goal
 

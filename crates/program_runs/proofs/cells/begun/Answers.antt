@@ -1,7 +1,13 @@
+use Rattle.std.proofs.Common.{◌∙◌, List, ap, map}
 use Rattle.std.proofs.Props.{props}
 use Rattle.std.proofs.Math.Logic.{∥∥₁_elim}
 use Rattle.launch_file.specs.LaunchFile.{given_by}
+use Rattle.lift_tree.specs.Launches.{buffers_of}
+use Rattle.lift_tree.specs.Programs.{program_of}
 use Rattle.lift_tree.specs.Types.{ty_of}
+use Rattle.lift_tree.specs.Typing.{declared_by}
+use Rattle.lift_tree.specs.Values.{value_of}
+use Rattle.lift_tree.specs.declared.value.Val.{Val}
 use Rattle.program_runs.proofs.LaidOut.{elements_once, small_once}
 use Rattle.program_runs.proofs.cells.begun.Goals as goal
 
@@ -21,4 +27,6 @@ blank_lists-requires-clause-few c =
     ∥∥₁_elim compiled.text_for (Prim.hlevel props) (λ t. t.laid_out.few)
 
 pub returns : goal.returns
-returns c = λ i. record { ins = c.in_ok-ins.ensures i; outs = c.in_ok-outs.ensures i; rest = 0 }
+returns c =
+    let read = c.in_ok-ins.ensures ∙ ap (λ (vs : List Val). buffers_of (declared_by (program_of c.args.compiled.now.program)).inputs (map value_of vs)) c.deref.ensures.value in
+    λ i. record { ins = read i; outs = c.in_ok-outs.ensures i; rest = 0 }

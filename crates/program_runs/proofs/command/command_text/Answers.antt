@@ -8,9 +8,10 @@ use Rattle.program_source.specs.StepsText.{IsStepsText}
 use Rattle.program_source.specs.Terms.{TermsOf}
 use Rattle.compilation.specs.Legal.{LegalOf}
 use Rattle.compilation.specs.Sequence.{SequenceOf}
-use Rattle.program_runs.specs.Started.{AreRunLines, EvalOf, IsRunStagesLine, IsValueLine, RunOf, RunStagesOf}
+use Rattle.program_runs.specs.Costs.{AreCostLines}
+use Rattle.program_runs.specs.Started.{AreRunLines, CostOf, EvalOf, IsRunStagesLine, IsValueLine, RunOf, RunStagesOf}
 use Rattle.program_runs.specs.Table.{IsKernelOf, IsSequenceOf}
-use Rattle.program_runs.specs.declared.command.Command.TheVariants.{Compile, Demo, Eval, Run, RunStages, Stages, Steps}
+use Rattle.program_runs.specs.declared.command.Command.TheVariants.{Compile, Cost, Demo, Eval, Run, RunStages, Stages, Steps}
 use Rattle.program_runs.proofs.Commands.{demo_stops, of_three, of_two, stops_as, writes_as}
 use Rattle.program_runs.proofs.command.command_text.Goals as goal
 
@@ -40,6 +41,18 @@ returns-in-Run-clause-refused c =
     let r = c.run_text.result in
     stops_as c.args.command (Run c.in-Run.trace) (texts_of c.args.texts.now) r c.in-Run.is
     (of_three (λ x y z. IfErr r (λ no. FailsFor (OnSource x (λ p. RunOf p y z)) (failure_of no))) c.text_at-first.ensures c.text_at-second.ensures c.text_at.ensures c.run_text.ensures.refused)
+
+pub returns-in-Cost-clause-written : goal.returns-in-Cost-clause-written
+returns-in-Cost-clause-written c =
+    let r = c.cost_text.result in
+    writes_as c.args.command (Cost c.in-Cost.items) (texts_of c.args.texts.now) r c.in-Cost.is
+    (of_three (λ x y z. IfOk r (λ text. AreCostLines x y z c.in-Cost.items text.items)) c.text_at-first.ensures c.text_at-second.ensures c.text_at-in-Cost.ensures c.cost_text.ensures.found)
+
+pub returns-in-Cost-clause-refused : goal.returns-in-Cost-clause-refused
+returns-in-Cost-clause-refused c =
+    let r = c.cost_text.result in
+    stops_as c.args.command (Cost c.in-Cost.items) (texts_of c.args.texts.now) r c.in-Cost.is
+    (of_three (λ x y z. IfErr r (λ no. FailsFor (OnSource x (λ p. CostOf p y z)) (failure_of no))) c.text_at-first.ensures c.text_at-second.ensures c.text_at-in-Cost.ensures c.cost_text.ensures.refused)
 
 pub returns-in-Eval-clause-written : goal.returns-in-Eval-clause-written
 returns-in-Eval-clause-written c =

@@ -26,7 +26,7 @@ read_launch-requires c =
     c.typed_programs_are_proper.ensures c.args.program.now _ found.legal.1.0 found.read found.legal.1.1
 
 pub run_launch-requires : goal.run_launch-requires
-run_launch-requires c = given_is_admissible _ _ _ _ c.in-Ok.ensures.ok
+run_launch-requires c = given_is_admissible _ _ _ _ refl c.in-Ok.ensures.ok
 
 pub returns-in-Err-clause-refused : goal.returns-in-Err-clause-refused
 returns-in-Err-clause-refused c =

@@ -7,9 +7,10 @@ use Rattle.kernel_tree.specs.Kernels.{kernel_of}
 use Rattle.kernel_tree.specs.Launch.{Cells, MayStart}
 use Rattle.kernel_tree.specs.Schedule.{schedule_of}
 use Rattle.ndrange_device.specs.Outcomes.{EndsUnder, FaultsUnder}
+use Rattle.launch_file.specs.StagesShown.{count_of, shared_of}
 use Rattle.lift_tree.specs.Types.{ty_of}
-use Rattle.program_runs.specs.Sequences.{begun_from}
-use Rattle.program_runs.proofs.NextKernel.{has_file, has_outline, next_kernel}
+use Rattle.program_runs.specs.Sequences.{begun_from, launch_at}
+use Rattle.program_runs.proofs.NextKernel.{count_at, has_count, has_outline, next_kernel}
 use Rattle.program_runs.proofs.Turns.{all_so_far, none_so_far, numbered_length, so_far_as}
 use Rattle.program_runs.proofs.sequence.run_in_turn.Goals as goal
 
@@ -18,13 +19,13 @@ loop-number-init c =
     so_far_as _ _ _ _ _ _ _ _ _ _ _ _ _ _ _ _ _ _ refl refl (ap (map (λ (l : Vec ℕ Global). l.items)) (sym c.new.ensures.items)) refl refl
     (none_so_far _ _ _ _ _ _ _ _ c.texts_are_of_one_sequence.ensures c.requires.read c.requires.admissible c.args.compiled.now.text_for c.requires.inputs)
 
-pub bounds-files-number : goal.bounds-files-number
-bounds-files-number c =
+pub bounds-counts-number : goal.bounds-counts-number
+bounds-counts-number c =
     let at = c.loop-number in
     let all = c.args.kernels.items in
     let road = YieldsList-from_enumerate {s = c.into_iter-number-iterator.result} (YieldsList-from_vec {s = c.into_iter-number-iterator.result.iter} all (search rules) (search rules)) (search rules) in
     let turn = YieldsList-turn road at.yielded at.number-iterator at.yielded_by c.next.result c.next.new.self (c.in-Some.number, c.in-Some.kernel) c.in-Some.is c.next.ensures.steps in
-    has_file _ _ _ _ _ _ _ (map (λ (l : Vec ℕ Global). l.items) c.args.inputs.items) c.texts_are_of_one_sequence.ensures c.requires.read c.requires.admissible c.args.compiled.now.text_for (length at.yielded) c.in-Some.number c.in-Some.kernel turn.0 turn.1
+    has_count _ _ _ _ _ _ _ _ (map (λ (l : Vec ℕ Global). l.items) c.args.inputs.items) c.texts_are_of_one_sequence.ensures c.requires.read c.requires.admissible c.args.compiled.now.text_for (length at.yielded) c.in-Some.number c.in-Some.kernel turn.0 turn.1
 
 pub index-requires : goal.index-requires
 index-requires c =
@@ -32,7 +33,7 @@ index-requires c =
     let all = c.args.kernels.items in
     let road = YieldsList-from_enumerate {s = c.into_iter-number-iterator.result} (YieldsList-from_vec {s = c.into_iter-number-iterator.result.iter} all (search rules) (search rules)) (search rules) in
     let turn = YieldsList-turn road at.yielded at.number-iterator at.yielded_by c.next.result c.next.new.self (c.in-Some.number, c.in-Some.kernel) c.in-Some.is c.next.ensures.steps in
-    let within = has_outline _ _ _ _ _ _ _ (map (λ (l : Vec ℕ Global). l.items) c.args.inputs.items) c.texts_are_of_one_sequence.ensures c.requires.read c.requires.admissible c.args.compiled.now.text_for (length at.yielded) c.in-Some.number c.in-Some.kernel turn.0 turn.1 in
+    let within = has_outline _ _ _ _ _ _ _ _ (map (λ (l : Vec ℕ Global). l.items) c.args.inputs.items) c.texts_are_of_one_sequence.ensures c.requires.read c.requires.admissible c.args.compiled.now.text_for (length at.yielded) c.in-Some.number c.in-Some.kernel turn.0 turn.1 in
     let len = c.args.compiled.now.outlines.ok.0 in
     omega (arith, within, len)
 
@@ -42,7 +43,7 @@ begun_from-requires-clause-elements c =
     let all = c.args.kernels.items in
     let road = YieldsList-from_enumerate {s = c.into_iter-number-iterator.result} (YieldsList-from_vec {s = c.into_iter-number-iterator.result.iter} all (search rules) (search rules)) (search rules) in
     let turn = YieldsList-turn road at.yielded at.number-iterator at.yielded_by c.next.result c.next.new.self (c.in-Some.number, c.in-Some.kernel) c.in-Some.is c.next.ensures.steps in
-    (next_kernel _ _ _ _ _ _ _ (map (λ (l : Vec ℕ Global). l.items) c.args.inputs.items) c.texts_are_of_one_sequence.ensures c.requires.read c.requires.admissible c.args.compiled.now.text_for (length at.yielded) c.in-Some.number c.in-Some.kernel turn.0 turn.1 c.index.result.now c.index-files-number.result c.index.ensures c.index-files-number.is _ _ _ _ at.invariant).elements
+    (next_kernel _ _ _ _ _ _ _ _ (map (λ (l : Vec ℕ Global). l.items) c.args.inputs.items) c.texts_are_of_one_sequence.ensures c.requires.read c.requires.admissible c.args.compiled.now.text_for (length at.yielded) c.in-Some.number c.in-Some.kernel turn.0 turn.1 c.index.result.now c.index.ensures _ _ _ _ at.invariant).elements
 
 pub begun_from-requires-clause-small : goal.begun_from-requires-clause-small
 begun_from-requires-clause-small c =
@@ -50,7 +51,7 @@ begun_from-requires-clause-small c =
     let all = c.args.kernels.items in
     let road = YieldsList-from_enumerate {s = c.into_iter-number-iterator.result} (YieldsList-from_vec {s = c.into_iter-number-iterator.result.iter} all (search rules) (search rules)) (search rules) in
     let turn = YieldsList-turn road at.yielded at.number-iterator at.yielded_by c.next.result c.next.new.self (c.in-Some.number, c.in-Some.kernel) c.in-Some.is c.next.ensures.steps in
-    (next_kernel _ _ _ _ _ _ _ (map (λ (l : Vec ℕ Global). l.items) c.args.inputs.items) c.texts_are_of_one_sequence.ensures c.requires.read c.requires.admissible c.args.compiled.now.text_for (length at.yielded) c.in-Some.number c.in-Some.kernel turn.0 turn.1 c.index.result.now c.index-files-number.result c.index.ensures c.index-files-number.is _ _ _ _ at.invariant).small
+    (next_kernel _ _ _ _ _ _ _ _ (map (λ (l : Vec ℕ Global). l.items) c.args.inputs.items) c.texts_are_of_one_sequence.ensures c.requires.read c.requires.admissible c.args.compiled.now.text_for (length at.yielded) c.in-Some.number c.in-Some.kernel turn.0 turn.1 c.index.result.now c.index.ensures _ _ _ _ at.invariant).small
 
 pub begun_from-requires-clause-few : goal.begun_from-requires-clause-few
 begun_from-requires-clause-few c =
@@ -58,7 +59,7 @@ begun_from-requires-clause-few c =
     let all = c.args.kernels.items in
     let road = YieldsList-from_enumerate {s = c.into_iter-number-iterator.result} (YieldsList-from_vec {s = c.into_iter-number-iterator.result.iter} all (search rules) (search rules)) (search rules) in
     let turn = YieldsList-turn road at.yielded at.number-iterator at.yielded_by c.next.result c.next.new.self (c.in-Some.number, c.in-Some.kernel) c.in-Some.is c.next.ensures.steps in
-    (next_kernel _ _ _ _ _ _ _ (map (λ (l : Vec ℕ Global). l.items) c.args.inputs.items) c.texts_are_of_one_sequence.ensures c.requires.read c.requires.admissible c.args.compiled.now.text_for (length at.yielded) c.in-Some.number c.in-Some.kernel turn.0 turn.1 c.index.result.now c.index-files-number.result c.index.ensures c.index-files-number.is _ _ _ _ at.invariant).few
+    (next_kernel _ _ _ _ _ _ _ _ (map (λ (l : Vec ℕ Global). l.items) c.args.inputs.items) c.texts_are_of_one_sequence.ensures c.requires.read c.requires.admissible c.args.compiled.now.text_for (length at.yielded) c.in-Some.number c.in-Some.kernel turn.0 turn.1 c.index.result.now c.index.ensures _ _ _ _ at.invariant).few
 
 pub run_kernel-requires-clause-may_start : goal.run_kernel-requires-clause-may_start
 run_kernel-requires-clause-may_start c =
@@ -68,12 +69,13 @@ run_kernel-requires-clause-may_start c =
     let turn = YieldsList-turn road at.yielded at.number-iterator at.yielded_by c.next.result c.next.new.self (c.in-Some.number, c.in-Some.kernel) c.in-Some.is c.next.ensures.steps in
     let x = c.in-Some.kernel in
     let o = c.index.result.now in
-    let f = c.index-files-number.result in
+    let s = c.args.shared.now in
+    let l = launch_at (shared_of s).sizes (count_of (count_at c.args.counts.now c.in-Some.number)) in
     let joined = ap (map (λ (l : Vec ℕ Global). l.items)) c.in_ok-append.ensures.items ∙ map-append (λ (l : Vec ℕ Global). l.items) at.inputs.items at.ran.outputs.items in
-    let cells_are : c.in_ok-cells.cells ≡ begun_from (map (λ (l : Vec ℕ Global). l.items) at.inputs.items ++ map (λ (l : Vec ℕ Global). l.items) at.ran.outputs.items) f.sizes (ty_of o.output) =
-    c.in_ok-cells.ensures ∙ ap (λ (z : List (List ℕ)). begun_from z f.sizes (ty_of o.output)) (ap (map (λ (l : Vec ℕ Global). l.items)) c.deref.ensures.value ∙ joined) in
-    subst (λ (z : Cells). MayStart (kernel_of x) f.launch z) (sym cells_are)
-    (next_kernel _ _ _ _ _ _ _ (map (λ (l : Vec ℕ Global). l.items) c.args.inputs.items) c.texts_are_of_one_sequence.ensures c.requires.read c.requires.admissible c.args.compiled.now.text_for (length at.yielded) c.in-Some.number c.in-Some.kernel turn.0 turn.1 c.index.result.now c.index-files-number.result c.index.ensures c.index-files-number.is _ _ _ _ at.invariant).starts
+    let cells_are : c.in_ok-cells.cells ≡ begun_from (map (λ (l : Vec ℕ Global). l.items) at.inputs.items ++ map (λ (l : Vec ℕ Global). l.items) at.ran.outputs.items) s.bases (ty_of o.output) =
+    c.in_ok-cells.ensures ∙ ap (λ (z : List (List ℕ)). begun_from z s.bases (ty_of o.output)) (ap (map (λ (l : Vec ℕ Global). l.items)) c.deref.ensures.value ∙ joined) in
+    subst (λ (z : Cells). MayStart (kernel_of x) l z) (sym cells_are)
+    (next_kernel _ _ _ _ _ _ _ _ (map (λ (l : Vec ℕ Global). l.items) c.args.inputs.items) c.texts_are_of_one_sequence.ensures c.requires.read c.requires.admissible c.args.compiled.now.text_for (length at.yielded) c.in-Some.number c.in-Some.kernel turn.0 turn.1 c.index.result.now c.index.ensures _ _ _ _ at.invariant).starts
 
 pub run_kernel-requires-clause-clean : goal.run_kernel-requires-clause-clean
 run_kernel-requires-clause-clean c = λ kind event item cell fault.
@@ -83,12 +85,13 @@ run_kernel-requires-clause-clean c = λ kind event item cell fault.
     let turn = YieldsList-turn road at.yielded at.number-iterator at.yielded_by c.next.result c.next.new.self (c.in-Some.number, c.in-Some.kernel) c.in-Some.is c.next.ensures.steps in
     let x = c.in-Some.kernel in
     let o = c.index.result.now in
-    let f = c.index-files-number.result in
+    let s = c.args.shared.now in
+    let l = launch_at (shared_of s).sizes (count_of (count_at c.args.counts.now c.in-Some.number)) in
     let joined = ap (map (λ (l : Vec ℕ Global). l.items)) c.in_ok-append.ensures.items ∙ map-append (λ (l : Vec ℕ Global). l.items) at.inputs.items at.ran.outputs.items in
-    let cells_are : c.in_ok-cells.cells ≡ begun_from (map (λ (l : Vec ℕ Global). l.items) at.inputs.items ++ map (λ (l : Vec ℕ Global). l.items) at.ran.outputs.items) f.sizes (ty_of o.output) =
-    c.in_ok-cells.ensures ∙ ap (λ (z : List (List ℕ)). begun_from z f.sizes (ty_of o.output)) (ap (map (λ (l : Vec ℕ Global). l.items)) c.deref.ensures.value ∙ joined) in
-    (next_kernel _ _ _ _ _ _ _ (map (λ (l : Vec ℕ Global). l.items) c.args.inputs.items) c.texts_are_of_one_sequence.ensures c.requires.read c.requires.admissible c.args.compiled.now.text_for (length at.yielded) c.in-Some.number c.in-Some.kernel turn.0 turn.1 c.index.result.now c.index-files-number.result c.index.ensures c.index-files-number.is _ _ _ _ at.invariant).clean
-    kind event item cell (subst (λ (z : Cells). FaultsUnder (schedule_of f.schedule) (kernel_of x) f.launch z kind event item cell) cells_are fault)
+    let cells_are : c.in_ok-cells.cells ≡ begun_from (map (λ (l : Vec ℕ Global). l.items) at.inputs.items ++ map (λ (l : Vec ℕ Global). l.items) at.ran.outputs.items) s.bases (ty_of o.output) =
+    c.in_ok-cells.ensures ∙ ap (λ (z : List (List ℕ)). begun_from z s.bases (ty_of o.output)) (ap (map (λ (l : Vec ℕ Global). l.items)) c.deref.ensures.value ∙ joined) in
+    (next_kernel _ _ _ _ _ _ _ _ (map (λ (l : Vec ℕ Global). l.items) c.args.inputs.items) c.texts_are_of_one_sequence.ensures c.requires.read c.requires.admissible c.args.compiled.now.text_for (length at.yielded) c.in-Some.number c.in-Some.kernel turn.0 turn.1 c.index.result.now c.index.ensures _ _ _ _ at.invariant).clean
+    kind event item cell (subst (λ (z : Cells). FaultsUnder (schedule_of s.schedule) (kernel_of x) l z kind event item cell) cells_are fault)
 
 pub loop-number-preserved : goal.loop-number-preserved
 loop-number-preserved c =
@@ -98,13 +101,14 @@ loop-number-preserved c =
     let turn = YieldsList-turn road at.yielded at.number-iterator at.yielded_by c.next.result c.next.new.self (c.in-Some.number, c.in-Some.kernel) c.in-Some.is c.next.ensures.steps in
     let x = c.in-Some.kernel in
     let o = c.index.result.now in
-    let f = c.index-files-number.result in
+    let s = c.args.shared.now in
+    let l = launch_at (shared_of s).sizes (count_of (count_at c.args.counts.now c.in-Some.number)) in
     let joined = ap (map (λ (l : Vec ℕ Global). l.items)) c.in_ok-append.ensures.items ∙ map-append (λ (l : Vec ℕ Global). l.items) at.inputs.items at.ran.outputs.items in
-    let cells_are : c.in_ok-cells.cells ≡ begun_from (map (λ (l : Vec ℕ Global). l.items) at.inputs.items ++ map (λ (l : Vec ℕ Global). l.items) at.ran.outputs.items) f.sizes (ty_of o.output) =
-    c.in_ok-cells.ensures ∙ ap (λ (z : List (List ℕ)). begun_from z f.sizes (ty_of o.output)) (ap (map (λ (l : Vec ℕ Global). l.items)) c.deref.ensures.value ∙ joined) in
-    let one = next_kernel _ _ _ _ _ _ _ (map (λ (l : Vec ℕ Global). l.items) c.args.inputs.items) c.texts_are_of_one_sequence.ensures c.requires.read c.requires.admissible c.args.compiled.now.text_for (length at.yielded) c.in-Some.number c.in-Some.kernel turn.0 turn.1 c.index.result.now c.index-files-number.result c.index.ensures c.index-files-number.is _ _ _ _ at.invariant in
+    let cells_are : c.in_ok-cells.cells ≡ begun_from (map (λ (l : Vec ℕ Global). l.items) at.inputs.items ++ map (λ (l : Vec ℕ Global). l.items) at.ran.outputs.items) s.bases (ty_of o.output) =
+    c.in_ok-cells.ensures ∙ ap (λ (z : List (List ℕ)). begun_from z s.bases (ty_of o.output)) (ap (map (λ (l : Vec ℕ Global). l.items)) c.deref.ensures.value ∙ joined) in
+    let one = next_kernel _ _ _ _ _ _ _ _ (map (λ (l : Vec ℕ Global). l.items) c.args.inputs.items) c.texts_are_of_one_sequence.ensures c.requires.read c.requires.admissible c.args.compiled.now.text_for (length at.yielded) c.in-Some.number c.in-Some.kernel turn.0 turn.1 c.index.result.now c.index.ensures _ _ _ _ at.invariant in
     let ran = c.in_ok-run_kernel.field-0 in
-    let ends = subst (λ (z : Cells). EndsUnder (schedule_of f.schedule) (kernel_of x) f.launch z (map (λ (l : Vec ℕ Global). l.items) ran.outputs.items) ran.events ran.releases) cells_are c.in_ok-run_kernel.ensures in
+    let ends = subst (λ (z : Cells). EndsUnder (schedule_of s.schedule) (kernel_of x) l z (map (λ (l : Vec ℕ Global). l.items) ran.outputs.items) ran.events ran.releases) cells_are c.in_ok-run_kernel.ensures in
     let more = length_push at.yielded (c.in-Some.number, x) in
     so_far_as _ _ _ _ _ _ _ _ _ _ _ _ _ _ _ _ _ _ (omega (arith, more)) (sym joined) (ap (λ (v : Vec (Vec ℕ Global) Global). map (λ (l : Vec ℕ Global). l.items) v.items) (sym c.followed-ran.ensures.outputs)) (sym c.followed-ran.ensures.events) (sym c.followed-ran.ensures.releases)
     (one.then c.inputs_stay.ensures x.in_grammar (map (λ (l : Vec ℕ Global). l.items) ran.outputs.items) ran.events ran.releases ends)

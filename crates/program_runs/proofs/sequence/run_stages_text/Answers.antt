@@ -1,10 +1,9 @@
 use Rattle.std.proofs.Common.{◌∙◌, Ok, List, [], ◌∷◌, Option, ℕ, ap, ap₂, inl, map, refl, subst, sym}
 use Rattle.lift_tree.specs.Programs.{program_of}
 use Rattle.lift_tree.specs.Types.{ty_of}
-use Rattle.launch_file.specs.LaunchFile.{given_by}
 use Rattle.launch_file.specs.Stages.{IsStagesFile, RefusesStages}
+use Rattle.launch_file.specs.StagesShown.{given_in_order}
 use Rattle.launch_file.specs.declared.file.Ask.{Ask}
-use Rattle.launch_file.specs.declared.file.LaunchFile.{LaunchFile}
 use Rattle.strategy_script.specs.LocalSize.{local_fixed}
 use Rattle.fault_lines.specs.Failure.{launch_failed}
 use Rattle.fault_lines.specs.Shown.{failure_of}
@@ -13,7 +12,6 @@ use Rattle.stages.proofs.HandedOn.{told_on}
 use Rattle.stages.specs.Stages.{As}
 use Rattle.compilation.specs.Sequence.{Outline, SequenceOf, outline_in, outline_of}
 use Rattle.compilation.specs.declared.sequence.KernelOutline.{KernelOutline}
-use Rattle.program_runs.specs.Sequences.{AreAdmissibleFor, IsSequenceLine}
 use Rattle.program_runs.specs.declared.command.Command.TheVariants.{RunStages}
 use Rattle.program_runs.specs.Started.{LaunchesOf, RunStagesOf, asks_in_order}
 use Rattle.program_runs.proofs.Admitted.{stages_are_admissible}
@@ -31,8 +29,7 @@ run_sequence-requires c =
     let compiled = c.in_ok-compiled.compiled in
     let p = program_of compiled.program in
     let asked = c.deref-2.ensures.value ∙ c.in_ok-asks.ensures ∙ ap (λ (ks : List KernelOutline). asks_in_order (map outline_of ks) compiled.local) c.deref.ensures.value in
-    subst (λ (fs : List LaunchFile). AreAdmissibleFor p compiled.local (map outline_of compiled.outlines.items) (map given_by fs)) (sym c.deref-in-Ok.ensures.value)
-    (stages_are_admissible p compiled.local (map outline_of compiled.outlines.items) c.args.launch.now _ (subst (λ (a : List Ask). IsStagesFile p a c.args.launch.now (map given_by c.in-Ok.files.items)) asked c.in-Ok.ensures.ok))
+    stages_are_admissible p compiled.local (map outline_of compiled.outlines.items) c.args.launch.now _ (subst (λ (a : List Ask). IsStagesFile p a c.args.launch.now (given_in_order c.in-Ok.file)) asked c.in-Ok.ensures.ok)
 
 pub returns-in_err-compiled-clause-refused : goal.returns-in_err-compiled-clause-refused
 returns-in_err-compiled-clause-refused c =
@@ -98,9 +95,9 @@ returns-in_ok-run_sequence-in-Ok-clause-found c =
       outlines = map outline_of compiled.outlines.items;
       text = compiled.text.items;
       compiled = c.in_ok-compiled.ensures.found;
-      givens = map given_by c.in-Ok.files.items;
-      launch_file = subst (λ (a : List Ask). IsStagesFile p a c.args.launch.now (map given_by c.in-Ok.files.items)) asked c.in-Ok.ensures.ok;
-      run = subst (λ (fs : List LaunchFile). IsSequenceLine p (map outline_of compiled.outlines.items) compiled.text.items (map given_by fs) c.in_ok-run_sequence-in-Ok.field-0.items) c.deref-in-Ok.ensures.value c.in_ok-run_sequence-in-Ok.ensures;
+      given = given_in_order c.in-Ok.file;
+      launch_file = subst (λ (a : List Ask). IsStagesFile p a c.args.launch.now (given_in_order c.in-Ok.file)) asked c.in-Ok.ensures.ok;
+      run = c.in_ok-run_sequence-in-Ok.ensures;
     }
 
 pub returns-in_ok-run_sequence-in-Ok-clause-exact : goal.returns-in_ok-run_sequence-in-Ok-clause-exact
@@ -112,5 +109,5 @@ returns-in_ok-run_sequence-in-Ok-clause-exact c = λ why cause.
     let found = c.in_ok-compiled.ensures.found in
     let p = program_of compiled.program in
     let asked = c.deref-2.ensures.value ∙ c.in_ok-asks.ensures ∙ ap (λ (ks : List KernelOutline). asks_in_order (map outline_of ks) compiled.local) c.deref.ensures.value ∙ ap₂ (λ (os : List Outline) (z : Option ℕ). asks_in_order os z) (sym found.outlined) found.fixed in
-    let started = subst (λ (a : List Ask). LaunchesOf p a launch (Ok (map given_by c.in-Ok.files.items))) asked c.in-Ok.ensures.ok in
-    (c.one_end.ensures RunStages (text ∷ script ∷ launch ∷ [])).none why (_, found.read.is, found.read.within, (tt, (map given_by c.in-Ok.files.items, (found.parts, found.compiled, started)))) cause
+    let started = subst (λ (a : List Ask). LaunchesOf p a launch (Ok (given_in_order c.in-Ok.file))) asked c.in-Ok.ensures.ok in
+    (c.one_end.ensures RunStages (text ∷ script ∷ launch ∷ [])).none why (_, found.read.is, found.read.within, (tt, (given_in_order c.in-Ok.file, (found.parts, found.compiled, started)))) cause

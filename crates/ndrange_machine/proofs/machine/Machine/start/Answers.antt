@@ -12,6 +12,7 @@ use Rattle.enabled_events.specs.declared.grid.Grid.{Grid}
 use Rattle.enabled_events.specs.Grids.{grid_of, laid}
 use Rattle.ndrange_machine.specs.Changes.{start_view}
 use Rattle.ndrange_machine.specs.Lines.{depth}
+use Rattle.ndrange_machine.specs.Words.{AreFilled}
 use Rattle.ndrange_machine.specs.Wants.{text_of}
 use Rattle.ndrange_machine.proofs.Beginning.{begun, lengths_are}
 use Rattle.ndrange_machine.proofs.machine.Machine.start.Goals as goal
@@ -24,8 +25,9 @@ returns c =
     let grid : Grid = record { global = c.launch.inside.global; local = c.launch.inside.local } in
     let text = c.in_ok-lines.ensures in
     let rest : c.cells.inside.rest ≡ given.rest = ap (λ v. v.rest) c.cells.view_is in
-    let locals = c.in_ok-stores.ensures.locals ∙ ap (λ (z : Launch). replicate (group_count z) (map (λ n. replicate n given.rest) k.locals)) c.launch.view_is in
-    let privates = c.in_ok-stores.ensures.privates ∙ ap (λ (z : Launch). replicate (item_count z) (map (λ n. replicate n given.rest) k.privates)) c.launch.view_is in
+    let memory = c.in_ok-stores.stores.memory in
+    let locals = subst (λ (z : Launch). AreFilled memory.locals (group_count z) k.locals given.rest) c.launch.view_is c.in_ok-stores.ensures.locals in
+    let privates = subst (λ (z : Launch). AreFilled memory.privates (item_count z) k.privates given.rest) c.launch.view_is c.in_ok-stores.ensures.privates in
     let items =
     c.in_ok-items.ensures
     ∙ ap (λ n. replicate n (start_view c.depth_of.result k.variables k.vectors c.cells.inside.rest)) c.item_count.ensures

@@ -1,8 +1,9 @@
-use Rattle.std.proofs.Common.{◌∙◌, ap, map, replicate, subst}
+use Rattle.std.proofs.Common.{◌∙◌, ap, subst}
 use Rattle.kernel_tree.specs.Launch.{item_count, group_count}
 use Rattle.enabled_events.specs.Grids.{laid}
 use Rattle.race_marks.specs.Marked.{BeginsMarks}
 use Rattle.ndrange_machine.specs.Memory.{rows_of}
+use Rattle.ndrange_machine.specs.Words.{AreFilled}
 use Rattle.ndrange_machine.proofs.machine.Stores.start.Goals as goal
 
 pub returns-clause-ins : goal.returns-clause-ins
@@ -13,15 +14,17 @@ returns-clause-outs c = ap rows_of c.in_ok-memory.ensures.outs ∙ ap (λ v. v.o
 
 pub returns-clause-locals : goal.returns-clause-locals
 returns-clause-locals c =
-    c.in_ok-memory.ensures.locals
-    ∙ ap (λ ns. replicate (group_count (laid c.args.grid)) (map (λ n. replicate n c.cells.inside.rest) ns)) c.deref.ensures.value
-    ∙ ap (λ w. replicate (group_count (laid c.args.grid)) (map (λ n. replicate n w) c.args.locals.items)) (ap (λ v. v.rest) c.cells.view_is)
+    let v = c.in_ok-memory.memory.locals in
+    let n = group_count (laid c.args.grid) in
+    subst (λ w. AreFilled v n c.args.locals.items w) (ap (λ z. z.rest) c.cells.view_is)
+    (subst (λ ns. AreFilled v n ns c.cells.inside.rest) c.deref.ensures.value c.in_ok-memory.ensures.locals)
 
 pub returns-clause-privates : goal.returns-clause-privates
 returns-clause-privates c =
-    c.in_ok-memory.ensures.privates
-    ∙ ap (λ ns. replicate (item_count (laid c.args.grid)) (map (λ n. replicate n c.cells.inside.rest) ns)) c.deref-2.ensures.value
-    ∙ ap (λ w. replicate (item_count (laid c.args.grid)) (map (λ n. replicate n w) c.args.privates.items)) (ap (λ v. v.rest) c.cells.view_is)
+    let v = c.in_ok-memory.memory.privates in
+    let n = item_count (laid c.args.grid) in
+    subst (λ w. AreFilled v n c.args.privates.items w) (ap (λ z. z.rest) c.cells.view_is)
+    (subst (λ ns. AreFilled v n ns c.cells.inside.rest) c.deref-2.ensures.value c.in_ok-memory.ensures.privates)
 
 pub returns-clause-marks : goal.returns-clause-marks
 returns-clause-marks c =

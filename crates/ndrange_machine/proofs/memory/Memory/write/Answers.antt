@@ -3,7 +3,7 @@ use Rattle.std.specs.Vec.{with_items}
 use Rattle.kernel_tree.specs.Device.{home}
 use Rattle.kernel_tree.specs.Tree.{array_of}
 use Rattle.ndrange_machine.specs.declared.memory.Memory.{Memory}
-use Rattle.ndrange_machine.proofs.Cells.{Puts, put_in, put_at, wrote_input, wrote_output, wrote_local, wrote_private}
+use Rattle.ndrange_machine.proofs.Cells.{Puts, put_in, wrote_input, wrote_output, wrote_local, wrote_private}
 use Rattle.ndrange_machine.proofs.memory.Memory.write.Goals as goal
 
 pub returns-in-Input-clause-cells : goal.returns-in-Input-clause-cells
@@ -25,15 +25,13 @@ returns-in-Output-clause-cells c =
 pub returns-in-Local-clause-cells : goal.returns-in-Local-clause-cells
 returns-in-Local-clause-cells c =
     let m = c.args.self.now in
-    let n : Memory = record { ins = m.ins; outs = m.outs; locals = with_items m.locals c.write_at.new.homes; privates = m.privates } in
+    let n : Memory = record { ins = m.ins; outs = m.outs; locals = c.write.new.self; privates = m.privates } in
     subst (λ x. Puts m n c.args.index c.args.word (record { array = array_of x; home = home c.args.group c.args.item (array_of x); index = c.args.index })) (sym c.in-Local.is)
-    (wrote_local m n c.args.index c.args.word c.args.group c.in-Local.a refl refl refl
-    (put_at c.args.index c.args.word c.args.group c.in-Local.a m.locals _ _ (c.write_at.auto.homes ∙ c.deref_mut-in-Local.ensures.len) c.deref_mut-in-Local.ensures.value c.write_at.ensures.cells))
+    (wrote_local m n c.args.index c.args.word c.args.group c.in-Local.a refl refl refl c.write.ensures.cells)
 
 pub returns-in-Private-clause-cells : goal.returns-in-Private-clause-cells
 returns-in-Private-clause-cells c =
     let m = c.args.self.now in
-    let n : Memory = record { ins = m.ins; outs = m.outs; locals = m.locals; privates = with_items m.privates c.write_at-in-Private.new.homes } in
+    let n : Memory = record { ins = m.ins; outs = m.outs; locals = m.locals; privates = c.write-in-Private.new.self } in
     subst (λ x. Puts m n c.args.index c.args.word (record { array = array_of x; home = home c.args.group c.args.item (array_of x); index = c.args.index })) (sym c.in-Private.is)
-    (wrote_private m n c.args.index c.args.word c.args.item c.in-Private.a refl refl refl
-    (put_at c.args.index c.args.word c.args.item c.in-Private.a m.privates _ _ (c.write_at-in-Private.auto.homes ∙ c.deref_mut-in-Private.ensures.len) c.deref_mut-in-Private.ensures.value c.write_at-in-Private.ensures.cells))
+    (wrote_private m n c.args.index c.args.word c.args.item c.in-Private.a refl refl refl c.write-in-Private.ensures.cells)

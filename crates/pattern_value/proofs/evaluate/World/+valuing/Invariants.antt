@@ -1,8 +1,9 @@
-use Rattle.std.proofs.Common.{◌≡◌, map, max, ◌+◌, ◌*◌}
+use Rattle.std.proofs.Common.{◌≡◌, map, max, take, ◌+◌, ◌*◌}
 use Rattle.lift_tree.specs.Tree.{tree_of}
 use Rattle.lift_tree.specs.Values.{value_of}
 use Rattle.lift_tree.specs.declared.term.Term.{size-Term}
-use Rattle.pattern_value.specs.Shut.{stack, map_under, fold_under}
+use Rattle.pattern_value.specs.Held.{values_in}
+use Rattle.pattern_value.specs.Shut.{map_under, fold_under}
 use Rattle.pattern_value.specs.World.{world_of}
 use Rattle.pattern_value.proofs.evaluate.World.+valuing.Given as goal
 
@@ -27,14 +28,11 @@ decreases-mapped l = 8 * size-Term l.body.now + 3
 abbrev pub decreases-under : goal.decreases-under
 decreases-under l = 8 * size-Term l.body.now + 1
 
-abbrev pub decreases-under_two : goal.decreases-under_two
-decreases-under_two l = 8 * size-Term l.body.now + 2
-
 abbrev pub decreases-value : goal.decreases-value
 decreases-value l = 8 * size-Term l.term.now
 
 abbrev pub invariant-folded-loop-x : goal.invariant-folded-loop-x
-invariant-folded-loop-x l = record { value : value_of l.end ≡ fold_under (world_of l.self) (stack l.fn.binders.items) (tree_of l.body) (value_of l.fn.start) (map value_of l.yielded); binders : l.binders.items ≡ l.fn.binders.items }
+invariant-folded-loop-x l = value_of l.end ≡ fold_under (world_of l.self) (values_in l.scope) (tree_of l.body) (value_of l.fn.start) (map value_of (take l.x-index l.xs))
 
 abbrev pub invariant-mapped-loop-x : goal.invariant-mapped-loop-x
-invariant-mapped-loop-x l = record { value : map value_of l.all.items ≡ map_under (world_of l.self) (stack l.fn.binders.items) (tree_of l.body) (map value_of l.yielded); binders : l.binders.items ≡ l.fn.binders.items }
+invariant-mapped-loop-x l = map value_of l.all.items ≡ map_under (world_of l.self) (values_in l.scope) (tree_of l.body) (map value_of (take l.x-index l.xs))

@@ -9,7 +9,7 @@ overflow_mul-result c =
     let r = c.self.inside in
     let said = c.in_ok-row.ensures.lookup in
     let got = ap (λ z. slice_get z c.args.row) (sym c.deref.ensures.value) ∙ get_or_is c.deref.result.now c.args.row c.in_ok-row.row.now (ltb-true c.args.row _ (sym said.0)) said.1 in
-    let lt = place_fits r.homes r.rows.items r.cells c.self.invariant c.args.row c.in_ok-row.row.now got c.args.home c.args.index c.if-home-self.true c.if-index-row.true in
+    let lt = place_fits r.homes r.rows.items r.width c.self.invariant c.args.row c.in_ok-row.row.now got c.args.home c.args.index c.if-home-self.true c.if-index-row.true in
     let fits = c.self.invariant.fits in
     omega arith
 
@@ -18,7 +18,7 @@ overflow_add-result c =
     let r = c.self.inside in
     let said = c.in_ok-row.ensures.lookup in
     let got = ap (λ z. slice_get z c.args.row) (sym c.deref.ensures.value) ∙ get_or_is c.deref.result.now c.args.row c.in_ok-row.row.now (ltb-true c.args.row _ (sym said.0)) said.1 in
-    let lt = place_fits r.homes r.rows.items r.cells c.self.invariant c.args.row c.in_ok-row.row.now got c.args.home c.args.index c.if-home-self.true c.if-index-row.true in
+    let lt = place_fits r.homes r.rows.items r.width c.self.invariant c.args.row c.in_ok-row.row.now got c.args.home c.args.index c.if-home-self.true c.if-index-row.true in
     let fits = c.self.invariant.fits in
     omega arith
 
@@ -27,7 +27,7 @@ overflow_add-result-then-index-row c =
     let r = c.self.inside in
     let said = c.in_ok-row.ensures.lookup in
     let got = ap (λ z. slice_get z c.args.row) (sym c.deref.ensures.value) ∙ get_or_is c.deref.result.now c.args.row c.in_ok-row.row.now (ltb-true c.args.row _ (sym said.0)) said.1 in
-    let lt = place_fits r.homes r.rows.items r.cells c.self.invariant c.args.row c.in_ok-row.row.now got c.args.home c.args.index c.if-home-self.true c.if-index-row.true in
+    let lt = place_fits r.homes r.rows.items r.width c.self.invariant c.args.row c.in_ok-row.row.now got c.args.home c.args.index c.if-home-self.true c.if-index-row.true in
     let fits = c.self.invariant.fits in
     omega arith
 
@@ -36,4 +36,4 @@ returns-then-index-row c =
     let r = c.self.inside in
     let said = c.in_ok-row.ensures.lookup in
     let got = ap (λ z. slice_get z c.args.row) (sym c.deref.ensures.value) ∙ get_or_is c.deref.result.now c.args.row c.in_ok-row.row.now (ltb-true c.args.row _ (sym said.0)) said.1 in
-    place_is r.homes r.rows.items r.cells c.self.invariant c.args.row c.in_ok-row.row.now got c.args.home c.args.index c.if-home-self.true c.if-index-row.true c.args.self.now c.self.view_is
+    place_is r.homes r.rows.items r.width c.self.invariant c.args.row c.in_ok-row.row.now got c.args.home c.args.index c.if-home-self.true c.if-index-row.true c.args.self.now c.self.view_is

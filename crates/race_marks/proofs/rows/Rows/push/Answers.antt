@@ -6,5 +6,5 @@ use Rattle.race_marks.proofs.rows.Rows.push.Goals as goal
 pub invariant_of-self-2 : goal.invariant_of-self-2
 invariant_of-self-2 c =
     let r = c.self.inside in
-    subst (λ rows. AreLaid r.homes rows c.in-Some.cells) (sym c.in_ok-push.ensures.items)
-    (laid_on r.homes r.rows.items r.cells (record { start = r.cells; length = c.args.length }) c.in-Some.cells c.self.invariant refl (c.cells_after.ensures c.in-Some.cells c.in-Some.is))
+    subst (λ rows. AreLaid r.homes rows c.in-Some.width) (sym c.in_ok-push.ensures.items)
+    (laid_on r.homes r.rows.items r.width (record { start = r.width; length = c.args.length }) c.in-Some.width c.self.invariant refl (c.width_with.ensures c.in-Some.width c.in-Some.is))

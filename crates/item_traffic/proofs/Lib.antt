@@ -1,0 +1,4 @@
+-- The lemmas of the crate.
+pub mod Turns
+pub mod Held
+pub mod Written

@@ -1,0 +1,6 @@
+-- The lemmas of the crate.
+pub mod Short
+pub mod Barriers
+pub mod Groups
+pub mod Plans
+pub mod Told

@@ -1,0 +1,4 @@
+pub mod Regions
+pub mod Short
+pub mod Traffic
+pub mod Laws

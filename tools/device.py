@@ -1,0 +1,250 @@
+"""Runs of kernels in order, from their text alone: docs/DEVICE.md in plain Python.
+
+`lift run --trace` tells the events of one kernel's run; no command tells those of several kernels,
+so their pictures are drawn from what is here. An item's next event is an action, which is done when
+the event is taken; which of those that can come next is taken, the launch file's schedule says, and
+a release stands at its group's first item.
+"""
+import re
+from collections import defaultdict
+from functools import cache
+from itertools import chain, repeat
+from typing import Iterator, NamedTuple
+
+from kernels import kernels_of, launches_of, names_of, statements
+
+TOKEN = re.compile(r"\(uint\)get_(\w+)\(0\)|(\d+)u|(\w+)|(<<|>>|==|\S)")
+WORDS = 2**32
+BARRIER, END = object(), object()
+
+
+class Event(NamedTuple):
+    """An event by its number in the run; `who` is an item, or the group of a release. An access has
+    one cell, or four from `cell` on."""
+
+    number: int
+    kind: str
+    who: int
+    array: str
+    cell: int
+    width: int = 1
+
+
+# each operator on words, as Python has it
+PYTHON = {"/": "({} // {})", "<<": "({} << ({} & 31))", ">>": "({} >> ({} & 31))"}
+
+
+def expression(tokens):
+    """The next expression of a text, in Python."""
+    id_form, number, name, mark = next(tokens)
+    if name in ("min", "max"):
+        _, first, _, second, _ = (
+            next(tokens),
+            expression(tokens),
+            next(tokens),
+            expression(tokens),
+            next(tokens),
+        )
+        return f"{name}({first}, {second})"
+    if mark != "(":
+        return id_form or number or name
+    first, operator, second = expression(tokens), next(tokens)[3], expression(tokens)
+    if next(tokens)[3] == "?":
+        chosen, _, other, _ = expression(tokens), next(tokens), expression(tokens), next(tokens)
+        return f"({chosen} if {first} {operator} {second} else {other})"
+    return f"({PYTHON.get(operator, '({} ' + operator + ' {})').format(first, second)} % {WORDS})"
+
+
+@cache
+def in_python(text):
+    tokens = (it.groups(default="") for it in TOKEN.finditer(text))
+    return compile(expression(tokens), text, "eval")
+
+
+def value(text, names):
+    return eval(in_python(text), {"min": min, "max": max}, names)
+
+
+@cache
+def parts(statement):
+    """What a statement does: its kind, the variable that it sets, an array and an index in it, and
+    the expression that is stored or assigned."""
+    target, source = statement.rstrip(";").split(" = ", 1)
+    read = re.fullmatch(r"([alop]\d+)\[(.*)\]", source)
+    write = re.fullmatch(r"([olp]\d+)\[(.*)\]", target)
+    if write:
+        return "write", "", write[1], write[2], source
+    if read:
+        return "read", target, read[1], read[2], ""
+    return "set", target, "", "", source
+
+
+class Item:
+    """A work-item: its names, and the arrays that it reaches, by name."""
+
+    def __init__(self, number, launch, shared, local):
+        self.number, self.names = number, names_of(number, launch)
+        self.arrays = {"a": shared, "o": shared, "l": local, "p": defaultdict(dict)}
+
+    def access(self, kind, array, cell):
+        if array.startswith("p"):
+            return "other step", "", 0
+        return f"{'local' if array.startswith('l') else 'global'} {kind}", array, cell
+
+    def assign(self, statement):
+        """Does an assignment, a load or a store, and tells of it: its kind, array and cell."""
+        kind, target, array, index, source = parts(statement)
+        if kind == "write":
+            cell = value(index, self.names)
+            self.arrays[array[0]][array][cell] = value(source, self.names)
+            return self.access(kind, array, cell)
+        if kind == "read":
+            cell = value(index, self.names)
+            self.names[target] = self.arrays[array[0]][array][cell]
+            return self.access(kind, array, cell)
+        self.names[target] = value(source, self.names)
+        return "other step", "", 0
+
+    def step(self):
+        return "other step", "", 0
+
+    def actions(self, body):
+        """What the item does in turn: an action for each event, and the barriers."""
+        for it in body:
+            if isinstance(it, str):
+                yield BARRIER if it.startswith("barrier") else lambda it=it: self.assign(it)
+            elif len(it) == 3:
+                yield self.step
+                start, bound, inner = it
+                if value(start, self.names) < value(bound, self.names):
+                    yield from self.actions(inner)
+            else:
+                yield from self.turns(*it)
+
+    def turns(self, variable, start, bound, step, inner):
+        yield self.step
+        turns = range(*(value(it, self.names) for it in (start, bound, step)))
+        for turn in turns:
+            self.names[variable] = turn
+            yield from self.actions(inner)
+            yield self.step
+
+
+def picks(schedule) -> Iterator[int]:
+    """The numbers of a schedule, without an end."""
+    if isinstance(schedule, dict):
+        return generated(schedule["seed"])
+    return chain(schedule, repeat(0))
+
+
+def generated(number: int) -> Iterator[int]:
+    while True:
+        number = (1664525 * number + 1013904223) % WORDS
+        yield number // 65536
+
+
+class Ready:
+    """Which of so many items can come next. Over them stands a tree of counts, whose leaves are the
+    last half of a list, so that the k-th of these items is found in few steps."""
+
+    def __init__(self, items: int):
+        self.leaves = 1 << (items - 1).bit_length()
+        self.counts = [0] * (2 * self.leaves)
+
+    @property
+    def total(self) -> int:
+        return self.counts[1]
+
+    def set(self, item: int, ready: bool):
+        node = self.leaves + item
+        change = ready - self.counts[node]
+        while change and node:
+            self.counts[node] += change
+            node //= 2
+
+    def item(self, k: int) -> int:
+        """The k-th of the items that can come next."""
+        node = 1
+        while node < self.leaves:
+            node *= 2
+            if k >= self.counts[node]:
+                k -= self.counts[node]
+                node += 1
+        return node - self.leaves
+
+
+class Run:
+    """A run: each item's actions to come, the next one known, and who can come next: an item with
+    an action, and for a group that waits at a barrier its first."""
+
+    def __init__(self, kernel, launch, shared):
+        body, count, self.group = statements(kernel), launch["global"], launch["local"]
+        local = [defaultdict(dict) for _ in range(count // self.group)]
+        items = [Item(k, launch, shared, local[k // self.group]) for k in range(count)]
+        self.actions = [item.actions(body) for item in items]
+        self.next, self.ready = [END] * count, Ready(count)
+        self.waiting = [0] * (count // self.group)
+        for k in range(count):
+            self.go_on(k)
+
+    def go_on(self, item):
+        action = self.next[item] = next(self.actions[item], END)
+        self.ready.set(item, action is not BARRIER and action is not END)
+        if action is BARRIER:
+            group = item // self.group
+            self.waiting[group] += 1
+            if self.waiting[group] == self.group:
+                self.ready.set(group * self.group, True)
+
+    def release(self, group):
+        self.waiting[group] = 0
+        for item in range(group * self.group, (group + 1) * self.group):
+            self.go_on(item)
+
+    def event(self, number, pick):
+        """The next event, none at the end: of those that can come next the one that is picked."""
+        if not self.ready.total:
+            return None
+        item = self.ready.item(pick % self.ready.total)
+        action = self.next[item]
+        if action is BARRIER:
+            self.release(item // self.group)
+            return Event(number, "release", item // self.group, "", 0)
+        kind, array, cell = action()
+        self.go_on(item)
+        return Event(number, kind, item, array, cell)
+
+
+def events(kernel, launch, shared):
+    """The events of a kernel's run; it leaves what it writes in the shared arrays."""
+    run, made = Run(kernel, launch, shared), []
+    for number, pick in enumerate(picks(launch.get("schedule", [])), 1):
+        event = run.event(number, pick)
+        if event is None:
+            return made
+        made.append(event)
+
+
+def runs(text, launch, lists):
+    """The runs of a text's kernels in order, each with its launch, its events and its counts: the
+    first has the lists of the inputs, and each those that the ones before it left."""
+    ins = list(lists)
+    for kernel, started in zip(kernels_of(text), launches_of(launch), strict=True):
+        shared = {f"a{k}": dict(enumerate(cells)) for k, cells in enumerate(ins)}
+        outs = [f"o{k}" for k in range(kernel.count("__global uint *"))]
+        shared |= {name: {} for name in outs}
+        told = events(kernel, started, shared)
+        releases = sum(event.kind == "release" for event in told)
+        yield started, told, {"events": len(told), "releases": releases}
+        ins += [[shared[name][k] for k in sorted(shared[name])] for name in outs]
+
+
+def numbers(value):
+    """The numbers of a value from left to right: row-major, the parts of a pair together."""
+    return [it for part in value for it in numbers(part)] if isinstance(value, list) else [value]
+
+
+def input_lists(inputs, launch):
+    """The lists of inputs in order, one for each component; an input has its type's text."""
+    flat = [(numbers(launch["inputs"][name]), told.count("u32")) for name, told in inputs.items()]
+    return [cells[k::components] for cells, components in flat for k in range(components)]
