@@ -7,6 +7,7 @@ from pathlib import Path
 
 FREE = {
     "group_form",
+    "group_phases",
     "kernel_tree",
     "lift_ir",
     "lift_tree",
@@ -15,6 +16,7 @@ FREE = {
     "scalar_ops",
     "size_arith",
     "stages",
+    "term_traffic",
 }
 CRATES = Path(__file__).resolve().parent.parent / "crates"
 CITES = re.compile(r"\bRattle\.(\w+)\.proofs\.")

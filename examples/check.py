@@ -29,7 +29,7 @@ from pathlib import Path
 
 import pages
 from costs import costs
-from counts import counts
+from counts import Items, counts
 from values import VALUES
 
 EXAMPLES = Path(__file__).resolve().parent
@@ -90,7 +90,7 @@ class Example:
             return []
         trace = self.made("run", self.script, self.launch, "--trace")
         lines = self.made("cost", self.script, self.launch, "--items")
-        same = trace is not None and lines == costs(trace, self.told["global"])
+        same = trace is not None and lines == costs(trace, Items(self.told).count)
         return [] if same else ["cost"]
 
     def calls_before_differ(self):

@@ -9,12 +9,12 @@ import sys
 from pathlib import Path
 
 sys.path.insert(0, str(Path(__file__).resolve().parent.parent / "tools"))
-from kernels import kernels_of, launches_of, names_of, statements
+from kernels import Items, kernels_of, launches_of, names_of, statements
 
 
 def number(expression, names):
     """The value of a start, bound or step; no such expression wraps."""
-    python = re.sub(r"\(uint\)get_(\w+)\(0\)", r"\1", expression)
+    python = re.sub(r"\(uint\)get_(\w+)\((\d)\)", r"\1_\2", expression)
     return eval(re.sub(r"\b(\d+)u\b", r"\1", python).replace("/", "//"), {}, names)
 
 
@@ -49,11 +49,11 @@ def loop(variable, start, bound, step, inner, names):
 
 def counts_of(kernel, launch):
     """Events, releases among them, and releases of a kernel's run."""
-    body, events, releases = statements(kernel), 0, 0
-    for item in range(launch["global"]):
+    body, items, events, releases = statements(kernel), Items(launch), 0, 0
+    for item in range(items.count):
         taken, barriers = steps(body, names_of(item, launch))
         events += taken
-        releases += barriers if item % launch["local"] == 0 else 0
+        releases += barriers if items.number_in_group(item) == 0 else 0
     return events + releases, releases
 
 

@@ -16,7 +16,7 @@ from pathlib import Path
 
 EXAMPLES = Path(__file__).resolve().parent
 sys.path.insert(0, str(EXAMPLES.parent / "tools"))
-from kernels import kernels_of
+from kernels import Items, kernels_of, told_size
 from picture import Run, picture, runs_of
 
 DOCS = EXAMPLES.parent / "docs"
@@ -97,8 +97,9 @@ def counted(kernel: str, run: Run) -> str:
     counts, items = run.counts, run.launch["global"]
     return (
         f"{counts['events']} events, {counts['releases']} releases,"
-        f" {kernel.count('barrier(')} barriers in the text, by {items}"
-        f" work-item{'s' if items > 1 else ''} in groups of {run.launch['local']}."
+        f" {kernel.count('barrier(')} barriers in the text, by {told_size(items)}"
+        f" work-item{'s' if Items(run.launch).count > 1 else ''} in groups of"
+        f" {told_size(run.launch['local'])}."
     )
 
 

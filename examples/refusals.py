@@ -18,6 +18,10 @@ PROGRAM = os.path.abspath(sys.argv[1]) if len(sys.argv) > 1 else f"{TOP}/lift"
 ADDED = "size N from 1 to 1000; input xs: [u32; N]; output map(\\x. add(x, 1), xs)"
 ROWS_OF = "input xs: [[u32; 2]; 3]; output "
 ARRAY = "size N from 1 to 1000; input xs: [u32; N]; output "
+NESTED = ROWS_OF + "map(\\r. map(\\x. x, r), xs)"
+CUBE = "input xs: [[[u32; 2]; 2]; 2]; output map(\\p. map(\\r. map(\\x. x, r), p), xs)"
+# a map over rows and along them
+PAIR = "at 1 to-glb\nat . to-glb1"
 FOUR = "input xs: [(u32, (u32, (u32, u32))); 2]; input ys: [u32; 2]; output "
 LAUNCH = {"global": 1, "local": 1, "sizes": {"N": 3}, "inputs": {"xs": [1, 2, 3]}}
 
@@ -103,6 +107,7 @@ ROWS = [
     ("size M from 1 to 65536; size N from 1 to 32768; input xs: [[u32; M]; N]; output xs", None, None, 10, "lift: limit scalars: 2147483648"),
     (ADDED, "at . to-seq\nat . to-sequence", None, 8, "lift: script: line 2"),
     (ADDED, "launch local 257\nat . to-glb", None, 8, "lift: script: line 1"),
+    (ADDED, "launch local 16 17\nat . to-glb", None, 8, "lift: script: line 1"),
     (ADDED, "at . to-glb\nlaunch local 64", None, 8, "lift: script: line 2"),
     (ADDED, "at 0 copy\n" * 257, None, 10, "lift: limit steps: 257"),
     (ADDED, "at 7 copy", None, 9, "lift: step 1: no place"),
@@ -129,6 +134,9 @@ ROWS = [
     ("input xs: [u32; 5]; output slide(3, 1, xs)", "", None, 11, "lift: nest: N10 at ."),
     ("input xs: [u32; 5]; output xs", "", None, 11, "lift: nest: N11 at ."),
     (ADDED, "launch local 2\nat . to-seq", None, 11, "lift: nest: N12 at ."),
+    (ADDED, "launch local 2 2\nat . to-glb", None, 11, "lift: nest: N12 at ."),
+    (ADDED, "at . to-glb1", None, 11, "lift: nest: N14 at ."),
+    (CUBE, "at 1.1 to-lcl\nat 1 to-wrg\nat . to-wrg1", None, 11, "lift: nest: N14 at 1.1"),
     (ADDED, CUT + "at . to-glb", None, 11, "lift: nest: N13 at 0"),
     (ADDED, CUT, launch(**{"global": 2}), 11, "lift: nest: N13 at 0"),
     (ARRAY + f"map(\\x. x, {'join(split(1, ' * 13}xs{'))' * 13})", "at . to-seq", None, 10, "lift: limit layouts: 26"),
@@ -141,6 +149,8 @@ ROWS = [
     (ADDED, "at . to-seq", launch(sizes={"N": 0}), 12, "lift: launch: size N is 0"),
     (ADDED, "at . to-seq", launch(**{"global": 6, "local": 4}), 12, "lift: launch: global 6, local 4"),
     (ADDED, "launch local 2\nat . to-glb", launch(**{"global": 4}), 12, "lift: launch: global 4, local 1"),
+    (NESTED, PAIR, launch(**{"global": [2, 2], "local": [1, 3]}), 12, "lift: launch: global [2,2], local [1,3]"),
+    (ADDED, "at . to-glb", launch(**{"global": [2, 2], "local": [1, 1]}), 12, "lift: launch: rows 2 for one row"),
     (ADDED, "launch local 2\nat . to-glb", launch(**{"global": 4, "inputs": {}}), 12, "lift: launch: global 4, local 1"),
     (ADDED, "at . to-seq", launch(**{"global": 2}), 12, "lift: launch: global 2 for one item"),
     (ADDED, "at . to-seq", launch(inputs={"xs": [1, 2]}), 12, "lift: launch: shape xs"),
@@ -162,7 +172,6 @@ IN_ORDER = [
 
 MULTIPLE = ADDED.replace("from 1", "multiple 4 from 4")
 TILED = "at . split-map 4\nat 0.1 to-lcl\nat 0 to-wrg"
-NESTED = ROWS_OF + "map(\\r. map(\\x. x, r), xs)"
 LAYERS = ARRAY + f"map(\\x. x, {'join(split(1, ' * 13}xs{'))' * 13})"
 ARRAY_3 = ARRAY.replace("from 1", "from 3")
 DOUBLED = ARRAY + "reduce(add, 0, map(\\x. mul(x, 2), xs))"
@@ -188,6 +197,7 @@ MENDED = [
     ("side whole", "input xs: [[u32; 4]; 2]; output map(\\p. first(p), zip(xs, xs))", "at 0.0 then"),
     ("side closed", "input xs: [[u32; 4]; 2]; output map(\\r. map(\\x. x, r), xs)", "at . then"),
     ("line 1", ADDED, "launch local 64\nat . to-glb"),
+    ("line 1", NESTED, f"launch local 16 16\n{PAIR}"),
     ("line 2", ADDED, "# first\n\nlaunch local 64\nat . to-glb"),
     ("shape", DOUBLED, "at . reduce-fold\nat . fuse-fold\nat . fold-seq"),
     ("side divides", MULTIPLE, "at . split-map 4\nat 0.1 to-seq\nat 0 to-seq"),
@@ -208,11 +218,15 @@ MENDED = [
     ("N11", "input xs: [u32; 5]; output xs", "at . copy\nat . to-seq"),
     ("N12", ADDED, "launch local 2\nat . to-glb"),
     ("N12", ADDED, "launch local 1\nat . to-seq"),
+    ("N12", ADDED, "launch local 4\nat . to-glb"),
+    ("N12", NESTED, f"launch local 2 2\n{PAIR}"),
     ("N13", ADDED, "at 0 copy\nat . fuse-map\nat . to-glb"),
     ("N13", ADDED, CUT + "at . to-glb"),
     ("N13", UNDER, "at 1.1 fold-seq\nat 0 to-glb\nat 0 then\nat 1 to-glb"),
     ("N13", READ_TWICE, FIRST_CUTS + "at . let-inline\nat . to-glb"),
     ("side closed", READ_TWICE, FIRST_CUTS),
+    ("N14", NESTED, PAIR),
+    ("N14", CUBE, "at 1.1 to-seq\nat 1 to-glb\nat . to-glb1"),
     ("components", FOUR + "map(\\x. map(\\y. add(first(x), y), ys), xs)", None),
     ("kernels", stages(16), cuts(16)),
     ("layouts", LAYERS, "at 0 join-split\nat . to-seq"),

@@ -6,6 +6,7 @@ from collections import defaultdict
 from typing import NamedTuple
 
 from device import Event
+from kernels import Items
 from svg import FAINT, GIVEN, INK, LEFT, ROOM, Colours, Part, rectangle, stacked, text
 
 # cells of one array that are drawn with numbers, and without; rows of a matrix with numbers, and
@@ -37,11 +38,11 @@ LARGE, SMALL = Form(18, 21, 36, True), Form(9, 10, 14, False)
 
 def cells_of(events: list[Event], launch: dict) -> dict[tuple[str, int], dict[int, Cell]]:
     """The cells of each array at the end: by its name and group, 0 of what isn't local."""
-    arrays: dict = defaultdict(dict)
+    arrays, items = defaultdict(dict), Items(launch)
     for event in events:
         if not event.array:
             continue
-        group = event.who // launch["local"] if event.array.startswith("l") else 0
+        group = items.group_of(event.who) if event.array.startswith("l") else 0
         cells = arrays[event.array, group]
         for cell in range(event.cell, event.cell + event.width):
             if event.kind.endswith("write"):
@@ -117,7 +118,7 @@ def small(number: int, cell: Cell, colours: Colours) -> list[str]:
     drawn = [rectangle(0, 0, 9, 8, fill, told)]
     if len(cell.readers) == 1:
         return drawn + [rectangle(0, 9, 9, 3, colours.of_item(item)) for item in cell.readers]
-    groups = {item // colours.group for item in cell.readers}
+    groups = set(map(colours.items.group_of, cell.readers))
     shown = (
         [colours.of_group(it) for it in sorted(groups)] if len(groups) <= SMALL_READERS else [INK]
     )
@@ -155,7 +156,7 @@ def shown_arrays(arrays: dict, launch: dict) -> tuple[list[tuple[str, int]], int
 
 def memory(events: list[Event], launch: dict, lengths: dict[str, list[int]]) -> Part:
     """The arrays of a run, with the lengths that their types have."""
-    arrays, colours = cells_of(events, launch), Colours(launch["global"], launch["local"])
+    arrays, colours = cells_of(events, launch), Colours(Items(launch))
     keys, left_out = shown_arrays(arrays, launch)
     parts = []
     for name, group in keys:

@@ -11,9 +11,9 @@ from functools import cache
 from itertools import chain, repeat
 from typing import Iterator, NamedTuple
 
-from kernels import kernels_of, launches_of, names_of, statements
+from kernels import Items, kernels_of, launches_of, names_of, statements
 
-TOKEN = re.compile(r"\(uint\)get_(\w+)\(0\)|(\d+)u|(\w+)|(<<|>>|==|\S)")
+TOKEN = re.compile(r"\(uint\)get_(\w+\(\d)\)|(\d+)u|(\w+)|(<<|>>|==|\S)")
 WORDS = 2**32
 BARRIER, END = object(), object()
 
@@ -47,7 +47,7 @@ def expression(tokens):
         )
         return f"{name}({first}, {second})"
     if mark != "(":
-        return id_form or number or name
+        return id_form.replace("(", "_") or number or name
     first, operator, second = expression(tokens), next(tokens)[3], expression(tokens)
     if next(tokens)[3] == "?":
         chosen, _, other, _ = expression(tokens), next(tokens), expression(tokens), next(tokens)
@@ -178,12 +178,13 @@ class Run:
     an action, and for a group that waits at a barrier its first."""
 
     def __init__(self, kernel, launch, shared):
-        body, count, self.group = statements(kernel), launch["global"], launch["local"]
-        local = [defaultdict(dict) for _ in range(count // self.group)]
-        items = [Item(k, launch, shared, local[k // self.group]) for k in range(count)]
+        body, self.items = statements(kernel), Items(launch)
+        count, groups = self.items.count, self.items.group_count
+        local = [defaultdict(dict) for _ in range(groups)]
+        items = [Item(k, launch, shared, local[self.items.group_of(k)]) for k in range(count)]
         self.actions = [item.actions(body) for item in items]
         self.next, self.ready = [END] * count, Ready(count)
-        self.waiting = [0] * (count // self.group)
+        self.waiting = [0] * groups
         for k in range(count):
             self.go_on(k)
 
@@ -191,14 +192,14 @@ class Run:
         action = self.next[item] = next(self.actions[item], END)
         self.ready.set(item, action is not BARRIER and action is not END)
         if action is BARRIER:
-            group = item // self.group
+            group = self.items.group_of(item)
             self.waiting[group] += 1
-            if self.waiting[group] == self.group:
-                self.ready.set(group * self.group, True)
+            if self.waiting[group] == self.items.of_group:
+                self.ready.set(self.items.members(group)[0], True)
 
     def release(self, group):
         self.waiting[group] = 0
-        for item in range(group * self.group, (group + 1) * self.group):
+        for item in self.items.members(group):
             self.go_on(item)
 
     def event(self, number, pick):
@@ -208,8 +209,9 @@ class Run:
         item = self.ready.item(pick % self.ready.total)
         action = self.next[item]
         if action is BARRIER:
-            self.release(item // self.group)
-            return Event(number, "release", item // self.group, "", 0)
+            group = self.items.group_of(item)
+            self.release(group)
+            return Event(number, "release", group, "", 0)
         kind, array, cell = action()
         self.go_on(item)
         return Event(number, kind, item, array, cell)

@@ -35,9 +35,52 @@ def block(lines):
     return made
 
 
+def pair(size):
+    """A size as a launch file has it, along both dimensions: a number is one row."""
+    return tuple(size) if isinstance(size, list) else (size, 1)
+
+
+def told_size(size):
+    """A size as a line tells it: a number where there is one row."""
+    across, down = pair(size)
+    return str(across) if down == 1 else f"{across} by {down}"
+
+
+class Items:
+    """The work-items of a launch, numbered row by row, and its groups."""
+
+    def __init__(self, launch):
+        self.all, self.group = pair(launch["global"]), pair(launch["local"])
+        self.groups = self.all[0] // self.group[0], self.all[1] // self.group[1]
+        self.count, self.of_group = self.all[0] * self.all[1], self.group[0] * self.group[1]
+        self.group_count = self.groups[0] * self.groups[1]
+
+    def place(self, item):
+        """An item's column and row."""
+        return item % self.all[0], item // self.all[0]
+
+    def group_of(self, item):
+        (column, row), (across, down) = self.place(item), self.group
+        return column // across + row // down * self.groups[0]
+
+    def number_in_group(self, item):
+        (column, row), (across, down) = self.place(item), self.group
+        return column % across + row % down * across
+
+    def members(self, group):
+        """The items of a group, the least first."""
+        across, down = self.group
+        first = group % self.groups[0] * across + group // self.groups[0] * down * self.all[0]
+        return [first + row * self.all[0] + k for row in range(down) for k in range(across)]
+
+
 def names_of(item, launch):
-    """What an item's expressions may name, but for loop variables and private ones."""
-    total, group = launch["global"], launch["local"]
-    sizes = {f"s{k}": size for k, size in enumerate(launch["sizes"].values())}
-    sizes |= {"global_size": total, "local_size": group, "num_groups": total // group}
-    return sizes | {"global_id": item, "local_id": item % group, "group_id": item // group}
+    """What an item's expressions may name, but for loop variables and private ones: the ids and
+    counts behind the number of their dimension."""
+    items, names = Items(launch), {}
+    for d, own in enumerate(items.place(item)):
+        total, group = items.all[d], items.group[d]
+        names |= {f"global_size_{d}": total, f"local_size_{d}": group}
+        names |= {f"num_groups_{d}": total // group, f"global_id_{d}": own}
+        names |= {f"local_id_{d}": own % group, f"group_id_{d}": own // group}
+    return names | {f"s{k}": size for k, size in enumerate(launch["sizes"].values())}

@@ -52,7 +52,8 @@ class Nest:
     """A kernel's loops, `if`s and barriers so far, each a line: its words, then its accesses.
 
     A local map that is neither a loop nor an `if` has the line `each item`: what stands in the body
-    over groups itself, from one barrier, loop or `if` of all items to the next.
+    over groups itself, from one barrier, loop or `if` of all items to the next; so have the loads
+    of a row of groups.
     """
 
     def __init__(self):
@@ -67,11 +68,11 @@ class Nest:
         self.around.append(self.line(words))
 
     def begin_item(self):
-        if len(self.around) == 1 and self.around[0][0].startswith("groups"):
+        if self.around and all(it[0].strip().startswith("groups") for it in self.around):
             self.go_into("each item")
 
     def end_item(self):
-        if len(self.around) == 2 and self.around[1][0].strip() == "each item":
+        if self.around and self.around[-1][0].strip() == "each item":
             self.around.pop()
 
     def take(self, statement):

@@ -27,7 +27,7 @@ import places
 from arrays_drawn import memory
 from device import Event
 from kernel_terms import KernelTerm, typed_kernels
-from kernels import kernels_of
+from kernels import Items, kernels_of, told_size
 from run_drawn import by_phases, fits_whole, legend, shown, timeline
 from svg import Colours, Part, document, paragraph, stacked
 from term_types import Type, components, lengths
@@ -108,14 +108,14 @@ def title(run: Run, several: bool) -> str:
     """How much a run is, and by whom."""
     launch, counts = run.launch, run.counts
     told = f"{counts['events']} events, {counts['releases']} of them releases"
-    items = f"{launch['global']} work-item{'s' if launch['global'] > 1 else ''}"
+    items = f"{told_size(launch['global'])} work-item{'s' if Items(launch).count > 1 else ''}"
     name = f"{run.name}: " if several else ""
-    return f"{name}{told}, by {items} in groups of {launch['local']}"
+    return f"{name}{told}, by {items} in groups of {told_size(launch['local'])}"
 
 
 def drawn_events(run: Run, first: int | None) -> list[Part]:
     """The run: event by event where all are to be told apart, or where a first one is told."""
-    colours = Colours(run.launch["global"], run.launch["local"])
+    colours = Colours(Items(run.launch))
     if first is None and not fits_whole(run.events, run.launch):
         return [by_phases(run.events, run.launch, colours)]
     part = shown(run.events, run.launch, first or 1)

@@ -15,7 +15,7 @@ import signal
 import sys
 
 TOKEN = re.compile(r"\s*(\w+|.)")
-MAPS = ("map", "mapGlb", "mapWrg", "mapLcl", "mapSeq")
+MAPS = ("map", "mapGlb", "mapWrg", "mapLcl", "mapGlb1", "mapWrg1", "mapLcl1", "mapSeq")
 FOLDS = ("fold", "foldSeq")
 NUMBERS = {"slide": 2, "pad": 2}
 NUMBER_BEHIND = ("div", "rem")

@@ -5,6 +5,7 @@ from collections import Counter
 from typing import NamedTuple
 
 from device import Event
+from kernels import Items
 from svg import EVENTS, FAINT, INK, LEFT, ROOM, Colours, Part
 from svg import line, rectangle, stacked, text
 
@@ -27,8 +28,10 @@ def shown(events: list[Event], launch: dict, first: int) -> Shown:
     """The events from a number on, of the items that come first: as many as have room."""
     near = events[first - 1 : first - 1 + COLUMNS * LINES]
     steps = {event.who for event in near if event.kind != "release"}
-    items = sorted(steps or {event.who * launch["local"] for event in near})[:ROWS]
-    rows, groups = set(items), {item // launch["local"] for item in items}
+    of = Items(launch)
+    first_items = steps or {of.members(event.who)[0] for event in near}
+    items = sorted(first_items, key=lambda item: (of.group_of(item), item))[:ROWS]
+    rows, groups = set(items), set(map(of.group_of, items))
     drawn = [
         it for it in events[first - 1 :] if it.who in (groups if it.kind == "release" else rows)
     ]
@@ -48,7 +51,7 @@ def legend() -> Part:
 
 def fits_whole(events: list[Event], launch: dict) -> bool:
     """Whether a run has room event by event."""
-    items = launch["global"]
+    items = Items(launch).count
     return items <= ROWS and len(events) <= COLUMNS * min(LINES, ALL_ROWS // items)
 
 
@@ -57,9 +60,9 @@ def fits_whole(events: list[Event], launch: dict) -> bool:
 
 def row_heads(items: list[int], launch: dict, colours: Colours) -> list[str]:
     """Each row's item with its colour, each group's name, and the lines between groups."""
-    drawn, last = [], None
+    drawn, last, of = [], None, Items(launch)
     for row, item in enumerate(items):
-        y, group = row * BOX, item // launch["local"]
+        y, group = row * BOX, of.group_of(item)
         if group != last:
             drawn.append(text(4, y + 13, f"group {group}", fill=FAINT))
             drawn += [line(y)] if row else []
@@ -73,7 +76,7 @@ def column(event: Event, rows: dict[int, int], launch: dict, x: float, width: fl
     """An event in its column, over the rows of a release's group or in that of its item."""
     fill = EVENTS[event.kind]
     if event.kind == "release":
-        over = [row for item, row in rows.items() if item // launch["local"] == event.who]
+        over = [row for item, row in rows.items() if Items(launch).group_of(item) == event.who]
         told = f"{event.number}: release {event.who}"
         height = (max(over) - min(over) + 1) * BOX
         return rectangle(x, min(over) * BOX, max(1.5, width / 2), height, fill, told)
@@ -115,9 +118,10 @@ def phases(events: list[Event], launch: dict, by_item: bool) -> dict[int, list[C
     """What each group, or each item, does: the counts of its events of each kind, from one release
     to the next. Items are asked for where there is no release."""
     found: dict[int, list[Counter]] = {}
+    items = Items(launch)
     for event in events:
         release = event.kind == "release"
-        who = event.who if by_item or release else event.who // launch["local"]
+        who = event.who if by_item or release else items.group_of(event.who)
         own = found.setdefault(who, [Counter()])
         if release:
             own.append(Counter())
@@ -156,8 +160,9 @@ def stretch(x: float, width: float, kind: str, count: int) -> list[str]:
 def by_phases(events: list[Event], launch: dict, colours: Colours) -> Part:
     """A row for each group, or for each item where all are few and no barrier parts their work."""
     releases = any(event.kind == "release" for event in events)
-    by_item = not releases and launch["global"] <= ITEMS
-    count = launch["global"] if by_item else launch["global"] // launch["local"]
+    items = Items(launch)
+    by_item = not releases and items.count <= ITEMS
+    count = items.count if by_item else items.group_count
     found = sorted(phases(events, launch, by_item).items())[:BARS]
     most = max(sum(map(Counter.total, counts)) for _, counts in found)
     gaps = 3 * max(len(counts) for _, counts in found)

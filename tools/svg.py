@@ -2,6 +2,8 @@
 import colorsys
 from typing import NamedTuple
 
+from kernels import Items
+
 WIDTH, LEFT, RIGHT = 820, 112, 6
 ROOM = WIDTH - LEFT - RIGHT
 INK, FAINT, GIVEN, GROUND = "#333333", "#8a8f98", "#e4e6ea", "#ffffff"
@@ -67,21 +69,20 @@ class Colours(NamedTuple):
     """The colours of a launch's items: a hue for each group, and in it lighter from item to item.
     Of one group, and where a group is one item, each item has a hue of its own."""
 
-    items: int
-    group: int
+    items: Items
 
     @property
     def by_group(self) -> bool:
-        return 1 < self.group < self.items
+        return 1 < self.items.of_group < self.items.count
 
     def of_item(self, item: int) -> str:
         if not self.by_group:
             return shade(item, (0.62, 0.73, 0.54)[item // 8 % 3])
-        shades = min(self.group, 8)
-        return shade(item // self.group, 0.48 + 0.36 * (item % self.group % shades + 0.5) / shades)
+        shades, own = min(self.items.of_group, 8), self.items.number_in_group(item)
+        return shade(self.items.group_of(item), 0.48 + 0.36 * (own % shades + 0.5) / shades)
 
     def of_group(self, group: int) -> str:
-        return shade(group, 0.62) if self.by_group or self.group == 1 else FAINT
+        return shade(group, 0.62) if self.by_group or self.items.of_group == 1 else FAINT
 
 
 def shade(number: int, lightness: float) -> str:

@@ -325,16 +325,18 @@ def can_be_made(program: str, before: str, place: tuple[int, ...], rule: str) ->
     return True
 
 
+PARALLEL = ("mapGlb", "mapWrg", "mapLcl", "mapGlb1", "mapWrg1", "mapLcl1")
 # the forms that alone break a rule of the nest, as docs/LANGUAGE.md has them; any may break another
 BREAKING = {
     "1": ("map", "reduce", "fold"),
-    "2": ("mapLcl",),
-    "3": ("mapGlb", "mapWrg"),
+    "2": ("mapLcl", "mapLcl1"),
+    "3": ("mapGlb", "mapWrg", "mapGlb1", "mapWrg1"),
     "5": ("toLocal",),
     "6": ("toLocal",),
     "8": ("toPrivate",),
-    "9": ("mapGlb", "mapWrg", "mapLcl"),
+    "9": PARALLEL,
     "10": ("zip", "slide", "pad", "first", "second"),
+    "14": PARALLEL,
 }
 
 

@@ -179,6 +179,11 @@ static const char *told(const char *object, const char *key) {
   return found;
 }
 
+/* Work-items along a row, and rows of them. */
+typedef struct {
+  size_t of[2];
+} Size;
+
 /* The numbers of a value, from left to right: row-major, the parts of a pair together. */
 static cl_uint *numbers(const char *value, size_t *count) {
   const char *end = value_end(value);
@@ -190,13 +195,22 @@ static cl_uint *numbers(const char *value, size_t *count) {
   return made;
 }
 
-static size_t work_items(const char *launch, const char *key) {
+static Size work_items(const char *launch, const char *key) {
   const char *at = member(launch, key);
+  int listed = at && *at == '[';
+  if (listed) at = past(at + 1, " \t\r\n");
   const char *end = at ? past(at, "0123456789") : NULL;
   if (!at || end == at || !strchr(" \t\r\n,}", *end))
     fail("the launch file has no number of work-items at the key %s: "
          "`lift eval` needs none, a kernel does", key);
-  return (size_t)strtoull(at, NULL, 10);
+  Size made = {{(size_t)strtoull(at, NULL, 10), 1}};
+  if (listed) {
+    at = past(end, " \t\r\n,");
+    end = past(at, "0123456789");
+    if (end == at || *past(end, " \t\r\n") != ']') fail("no list of two numbers at the key %s", key);
+    made.of[1] = (size_t)strtoull(at, NULL, 10);
+  }
+  return made;
 }
 
 /* The members of a list, at most KERNELS; how many there are. */
@@ -216,13 +230,26 @@ static int members(const char *list, const char *found[KERNELS]) {
 typedef struct {
   char name[NAME_BYTES];
   cl_uint outputs;
-  size_t global, local, length; /* of each output */
+  Size global, local;
+  size_t length; /* of each output */
 } Stage;
 
-/* The local size that the kernel's first line asks for, 0 where it asks for none. */
-static size_t fixed_size(const char *kernel) {
+/* The local size that the kernel's first line asks for, twice 0 where it asks for none. */
+static Size fixed_size(const char *kernel) {
   const char *word = "reqd_work_group_size(", *at = strstr(kernel, word);
-  return at ? (size_t)strtoull(at + strlen(word), NULL, 10) : 0;
+  if (!at) return (Size){{0, 0}};
+  char *end;
+  size_t across = (size_t)strtoull(at + strlen(word), &end, 10);
+  return (Size){{across, (size_t)strtoull(end + 1, NULL, 10)}};
+}
+
+/* Whether the numbers of work-items are few enough, in all and in a group. */
+static int is_admissible(Size global, Size local) {
+  for (int d = 0; d < 2; d++)
+    if (local.of[d] < 1 || local.of[d] > 256 || global.of[d] < 1 || global.of[d] > 65536 ||
+        global.of[d] % local.of[d] != 0)
+      return 0;
+  return local.of[0] * local.of[1] <= 256 && global.of[0] * global.of[1] <= 65536;
 }
 
 /* What is told of a kernel by its own text and its launch. */
@@ -233,15 +260,18 @@ static Stage stage_of(const char *kernel, const char *launch) {
   made.outputs = (cl_uint)count_of(kernel, "__global uint *");
   made.global = work_items(launch, "global");
   made.local = work_items(launch, "local");
-  if (made.local < 1 || made.local > 256 || made.global < 1 || made.global > 65536 ||
-      made.global % made.local != 0)
-    fail("global %zu, local %zu: local is 1 to 256, global 1 to 65536, and local divides global",
-         made.global, made.local);
-  size_t fixed = fixed_size(kernel);
-  if (fixed && fixed != made.local)
-    fail("local %zu: this kernel is for groups of %zu", made.local, fixed);
-  if (made.global != 1 && !strstr(kernel, "get_"))
-    fail("global %zu: this kernel is for one work-item", made.global);
+  const size_t *global = made.global.of, *local = made.local.of;
+  if (!is_admissible(made.global, made.local))
+    fail("global %zu by %zu, local %zu by %zu: local is 1 to 256, global 1 to 65536, and local "
+         "divides global", global[0], global[1], local[0], local[1]);
+  Size fixed = fixed_size(kernel);
+  if (fixed.of[0] && (fixed.of[0] != local[0] || fixed.of[1] != local[1]))
+    fail("local %zu by %zu: this kernel is for groups of %zu by %zu", local[0], local[1],
+         fixed.of[0], fixed.of[1]);
+  if (global[0] * global[1] != 1 && !strstr(kernel, "get_"))
+    fail("global %zu by %zu: this kernel is for one work-item", global[0], global[1]);
+  if (global[1] != 1 && !strstr(kernel, "(1)"))
+    fail("global %zu by %zu: this kernel is for one row of work-items", global[0], global[1]);
   return made;
 }
 
@@ -283,9 +313,10 @@ static int is_form(const char *name, size_t length, const char *form) {
 
 /* What stands in a program for a form of a script's terms: NULL where it stands there too. */
 static const char *plain_form(const char *name, size_t length) {
-  static const char *const pairs[][2] = {{"mapGlb", "map"}, {"mapWrg", "map"},   {"mapLcl", "map"},
-                                         {"mapSeq", "map"}, {"foldSeq", "fold"}, {"toLocal", ""},
-                                         {"toPrivate", ""}, {"then", ""}};
+  static const char *const pairs[][2] = {
+      {"mapGlb", "map"},  {"mapWrg", "map"},  {"mapLcl", "map"},   {"mapGlb1", "map"},
+      {"mapWrg1", "map"}, {"mapLcl1", "map"}, {"mapSeq", "map"},   {"foldSeq", "fold"},
+      {"toLocal", ""},    {"toPrivate", ""},  {"then", ""}};
   for (size_t k = 0; k < sizeof pairs / sizeof *pairs; k++)
     if (is_form(name, length, pairs[k][0])) return pairs[k][1];
   return NULL;
@@ -470,7 +501,9 @@ static void run(Host *host, cl_program program, const Stage *stage, const cl_uin
           "clSetKernelArg");
   for (int k = 0; k < size_count; k++)
     check(clSetKernelArg(kernel, parameter++, sizeof sizes[k], &sizes[k]), "clSetKernelArg");
-  check(clEnqueueNDRangeKernel(host->queue, kernel, 1, NULL, &stage->global, &stage->local, 0, NULL,
+  cl_uint dimensions = stage->global.of[1] == 1 ? 1 : 2;
+  const size_t *global = stage->global.of, *local = stage->local.of;
+  check(clEnqueueNDRangeKernel(host->queue, kernel, dimensions, NULL, global, local, 0, NULL,
                                NULL),
         "clEnqueueNDRangeKernel");
   clReleaseKernel(kernel);

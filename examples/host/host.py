@@ -26,12 +26,13 @@ def fail(message):
 
 
 def work_items(launch, key):
-    """The number of work-items at a key, for each kernel."""
+    """The number of work-items at a key, for each kernel; a tuple where it is a list of two."""
     launches = launch.get("launches", [launch])
     if not isinstance(launches, list):
         fail("the launch file has no list at the key launches")
     numbers = [it.get(key) if isinstance(it, dict) else None for it in launches]
-    if any(type(it) is not int for it in numbers):
+    numbers = [tuple(it) if isinstance(it, list) and len(it) == 2 else it for it in numbers]
+    if any(type(part) is not int for it in numbers for part in (it if isinstance(it, tuple) else [it])):
         fail(
             f"the launch file has no number of work-items at the key {key}: "
             "`lift eval` needs none, a kernel does"

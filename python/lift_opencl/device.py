@@ -7,7 +7,7 @@ from typing import Sequence
 import numpy
 import pyopencl
 
-from .kernels import Kernel
+from .kernels import Kernel, Size, pair
 
 # stands in an output before a kernel runs: where it is left, most likely nobody wrote the cell
 UNWRITTEN = 0xDEADBEEF
@@ -53,14 +53,16 @@ class Device:
     def start(
         self,
         kernel: int,
-        work_items: tuple[int, int],
+        work_items: tuple[Size, Size],
         buffers: Sequence[pyopencl.Buffer],
         sizes: Sequence[int],
     ) -> pyopencl.Event:
         """Starts a kernel behind what the queue has; a queue in order runs one after another."""
-        total, local = work_items
+        total, local = map(pair, work_items)
         arguments = [*buffers, *map(numpy.uint32, sizes)]
-        return self.kernels[kernel](self.queue, (total,), (local,), *arguments)
+        dimensions = 1 if total[1] == 1 else 2
+        launch = total[:dimensions], local[:dimensions]
+        return self.kernels[kernel](self.queue, *launch, *arguments)
 
     def read(self, buffer: pyopencl.Buffer, shape: tuple[int, ...]) -> numpy.ndarray:
         words = numpy.empty(shape, numpy.uint32)

@@ -11,15 +11,15 @@ from typing import Any, Iterator, Mapping, Sequence, Union
 from .array_types import element, given, shape
 from .arrays import Value, Words, components_of, nested
 from .command import LiftError, lift
-from .kernels import Kernel, kernels
+from .kernels import Kernel, Size, kernels
 from .program import declarations, last_term, of_one_kernel
 from .refusals import where
 from .sizes import Sizes, admitted, sizes_of
 from .term_types import with_types
 
 File = Union[str, os.PathLike]
-# a number of work-items: chosen, one for all kernels, or one for each
-WorkItems = Union[None, int, Sequence[Union[None, int]]]
+# a number of work-items, or a tuple for rows of them: chosen, one for all kernels, or one for each
+WorkItems = Union[None, Size, Sequence[Union[None, Size]]]
 # the status of `lift` where it can't read a file
 NOT_READ = 3
 
@@ -98,7 +98,8 @@ class Function:
         The value is an array of uint32, or a tuple of two where its elements are pairs.
 
         `global_size` and `local_size` are lists with a number for each kernel, or one number for
-        all that aren't for one work-item.
+        all that aren't for one work-item. Where a kernel has a map over rows, a tuple of two is in
+        place of a number: how many work-items a row has, and how many rows.
 
         TypeError, ValueError: what is given doesn't fit the program; nothing was run.
         """
@@ -206,9 +207,9 @@ class Function:
         shapes = {name: its[0].shape for name, its in components.items()}
         return sizes_of(self.sizes, self.inputs, shapes, sizes)
 
-    def _each(self, number: WorkItems) -> Sequence[int | None]:
+    def _each(self, number: WorkItems) -> Sequence[Size | None]:
         """A number of work-items for each kernel."""
-        if isinstance(number, Sequence):
+        if isinstance(number, Sequence) and not isinstance(number, tuple):
             numbers = list(number)
         else:
             several = len(self.kernels) > 1
@@ -216,8 +217,8 @@ class Function:
         if len(numbers) != len(self.kernels):
             count = len(self.kernels)
             raise ValueError(f"{len(numbers)} numbers of work-items for {count} kernels")
-        if not all(it is None or hasattr(it, "__index__") for it in numbers):
-            raise TypeError("a number of work-items is a whole number")
+        if not all(it is None or is_size(it) for it in numbers):
+            raise TypeError("a number of work-items is a whole number, or a tuple of two")
         return numbers
 
     def _opened(self) -> Any:
@@ -230,6 +231,12 @@ class Function:
 
 def text_of(file: File) -> str:
     return Path(file).read_bytes().decode("latin-1")
+
+
+def is_size(size: Any) -> bool:
+    """Whether it is a whole number, or a tuple of two."""
+    parts = size if isinstance(size, tuple) and len(size) == 2 else (size,)
+    return all(hasattr(it, "__index__") for it in parts)
 
 
 def known(what: str, given: Mapping[str, Any], declared: Mapping[str, Any]) -> None:
@@ -245,7 +252,8 @@ def launches(kernel: Kernel) -> str:
     if kernel.one_item:
         return "one work-item, global size 1 and local size 1"
     local = kernel.local_size or "1 to 256"
-    return f"local size {local}, global size a multiple of it up to 65536"
+    rows = "" if kernel.one_row else ", both along rows and from row to row"
+    return f"local size {local}, global size a multiple of it up to 65536{rows}"
 
 
 @contextmanager

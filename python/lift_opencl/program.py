@@ -9,7 +9,7 @@ from .array_types import Array, Pair, Type, Word
 from .lengths import Length
 
 TOKEN = re.compile(r"\s*(\w+|.)")
-MAPS = ("map", "mapGlb", "mapWrg", "mapLcl", "mapSeq")
+MAPS = ("map", "mapGlb", "mapWrg", "mapLcl", "mapGlb1", "mapWrg1", "mapLcl1", "mapSeq")
 FOLDS = ("fold", "foldSeq")
 # how many numbers stand before the term
 NUMBERS = {"split": 1, "stride": 1, "slide": 2, "pad": 2}

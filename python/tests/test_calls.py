@@ -17,6 +17,12 @@ size N from 1 to 100;
 input ps: [(u32, (u32, u32)); N];
 output map(\p. pair(second(p), first(p)), ps)
 """
+ROWS = r"""
+size M from 1 to 100;
+size N from 1 to 100;
+input xs: [[u32; M]; N];
+output map(\row. map(\x. add(x, 1), row), xs)
+"""
 HALVES = r"""
 size M from 1 to 50;
 size N from 1 to 50;
@@ -214,6 +220,28 @@ class WorkItems(unittest.TestCase):
             add("launch local 8\n" + ITEMS)(xs=[1, 2], ys=[3, 4], local_size=4)
         with self.assertRaisesRegex(ValueError, "for one work-item"):
             add("at . to-seq")(xs=[1, 2], ys=[3, 4], local_size=4)
+
+    def test_rows(self) -> None:
+        """A kernel with a map over rows takes tuples; one without takes one row."""
+        function = Function.from_text(ROWS, "at 1 to-glb\nat . to-glb1")
+        kernel, xs = function.kernels[0], numpy.arange(6).reshape(2, 3)
+        self.assertEqual(kernel.work_items({"M": 100, "N": 30}, 256), ((128, 30), 64))
+        self.assertEqual(kernel.work_items({"M": 3, "N": 2}, 256), ((3, 2), (3, 2)))
+        self.assertEqual(function(xs).tolist(), [[1, 2, 3], [4, 5, 6]])
+        self.assertEqual(function.work_items, [((3, 2), (3, 2))])
+        for sizes in ((1, 1), ((2, 2), 1), ((6, 8), (3, 4))):
+            value = function(xs, global_size=sizes[0], local_size=sizes[1])
+            self.assertEqual(value.tolist(), [[1, 2, 3], [4, 5, 6]])
+            self.assertEqual(function.work_items, [sizes])
+        fixed = Function.from_text(ROWS, "launch local 4 2\nat 1 to-glb\nat . to-glb1")
+        self.assertEqual(fixed.kernels[0].local_size, (4, 2))
+        self.assertEqual(fixed(xs).tolist(), [[1, 2, 3], [4, 5, 6]])
+        with self.assertRaisesRegex(ValueError, "for one row of work-items"):
+            add()(xs=[1, 2], ys=[3, 4], global_size=(2, 2), local_size=1)
+        with self.assertRaisesRegex(ValueError, "local divides"):
+            function(xs, global_size=(4, 3), local_size=(2, 2))
+        with self.assertRaisesRegex(ValueError, r"for groups of \(4, 2\)"):
+            fixed(xs, local_size=8)
 
     def test_kernels_in_order(self) -> None:
         """One number is for the kernels that take it, a list has one for each."""

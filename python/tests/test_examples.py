@@ -1,12 +1,20 @@
 """Each example on the device: the value that `lift` gives and the one that is stored."""
+from __future__ import annotations
+
 import json
 import unittest
 
 from lift_opencl import Function
 from lift_opencl.command import lift
+from lift_opencl.kernels import Size, told
 from lift_opencl.launch_files import inputs_of, to_lists
 
 from .examples import examples
+
+
+def size(given: int | list[int]) -> Size:
+    """A size of a launch file, as a call takes and tells it."""
+    return told(*given) if isinstance(given, list) else given
 
 
 class Examples(unittest.TestCase):
@@ -14,19 +22,19 @@ class Examples(unittest.TestCase):
         """With the work-items that are chosen, and with the launch file's."""
         for example in examples():
             with self.subTest(example.name):
-                told = example.told()
+                file = example.told()
                 function = Function(example.program, example.script)
-                launches = told.get("launches", [told])
-                given = inputs_of(told, function.inputs)
+                launches = file.get("launches", [file])
+                given = inputs_of(file, function.inputs)
                 chosen = function.run(given)
+                asked_for = [(size(it["global"]), size(it["local"])) for it in launches]
                 asked = function.run(
                     given,
-                    global_size=[it["global"] for it in launches],
-                    local_size=[it["local"] for it in launches],
+                    global_size=[total for total, _ in asked_for],
+                    local_size=[local for _, local in asked_for],
                 )
-                asked_for = [(it["global"], it["local"]) for it in launches]
                 self.assertEqual(function.work_items, asked_for)
-                run = "run-stages" if "launches" in told else "run"
+                run = "run-stages" if "launches" in file else "run"
                 line = lift(run, example.program, example.script, example.launch)
                 wanted = json.loads(line)["value"]
                 self.assertEqual(to_lists(chosen), wanted)

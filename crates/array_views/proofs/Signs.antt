@@ -1,5 +1,5 @@
 -- What a view says is what the printed form's says.
-use Rattle.std.proofs.Common.{◌≡◌, ℕ, zero, suc, ◌+◌, Bool, true, false, List, [], ◌∷◌, refl, ap, ap₂, ◌∙◌, arith, eq-eqb}
+use Rattle.std.proofs.Common.{◌≡◌, ℕ, zero, suc, ◌+◌, ◌<◌, Bool, true, false, List, [], ◌∷◌, refl, ap, ap₂, ◌∙◌, arith, eq-eqb}
 use Rattle.std.proofs.lemmas.Bool.{eqb-true, ne_eqb}
 use Rattle.std.specs.Prelude.{◌&&◌, ◌==◌, if◌then◌else◌, map}
 use Rattle.lift_ir.specs.Types.{Shape, Scalar, PairOf, ArrayOf, component}
@@ -51,53 +51,85 @@ all_three : (a b c x y z : Bool) → a ≡ x → b ≡ y → c ≡ z → (a && b
 all_three a b c x y z p q r = ap (λ u. u && b && c) p ∙ ap (λ u. x && u && c) q ∙ ap (λ u. x && y && u) r
 
 -- ---- what spells a turn
-next_same : (k j : ℕ) → (suc (suc k) == suc (suc j)) ≡ (k == j)
+next_same : (k j : ℕ) → (suc (suc (suc (suc k))) == suc (suc (suc (suc j)))) ≡ (k == j)
 next_same k j = go (k == j) refl
   where
-    go : (b : Bool) → (k == j) ≡ b → (suc (suc k) == suc (suc j)) ≡ b
-    go true e = eq-eqb (suc (suc k)) (suc (suc j)) (ap (λ x. suc (suc x)) (eqb-true k j e))
-    go false e = ne_eqb (suc (suc k)) (suc (suc j)) (λ h. let same : k ≡ j = omega arith in let t : (k == j) ≡ true = eq-eqb k j same in absurd (cc (t, e)))
+    go : (b : Bool) → (k == j) ≡ b → (suc (suc (suc (suc k))) == suc (suc (suc (suc j)))) ≡ b
+    go true e = eq-eqb (suc (suc (suc (suc k)))) (suc (suc (suc (suc j)))) (ap (λ x. suc (suc (suc (suc x)))) (eqb-true k j e))
+    go false e = ne_eqb (suc (suc (suc (suc k)))) (suc (suc (suc (suc j)))) (λ h. let same : k ≡ j = omega arith in let t : (k == j) ≡ true = eq-eqb k j same in absurd (cc (t, e)))
+
+-- an id's turn is no loop's
+before_loops : (i k : ℕ) → i < 4 → ((i == suc (suc (suc (suc k)))) ≡ false) × ((suc (suc (suc (suc k))) == i) ≡ false)
+before_loops i k lt = (ne_eqb i (suc (suc (suc (suc k)))) (λ h. absurd (omega arith)), ne_eqb (suc (suc (suc (suc k)))) i (λ h. absurd (omega arith)))
 
 same_turns : (k j : ℕ) → (k == j) ≡ same_formula (turn_formula k) (turn_formula j)
 same_turns zero zero = refl
 same_turns zero (suc zero) = refl
-same_turns zero (suc (suc j)) = ne_eqb zero (suc (suc j)) (λ h. absurd (omega arith))
+same_turns zero (suc (suc zero)) = refl
+same_turns zero (suc (suc (suc zero))) = refl
 same_turns (suc zero) zero = refl
 same_turns (suc zero) (suc zero) = refl
-same_turns (suc zero) (suc (suc j)) = ne_eqb (suc zero) (suc (suc j)) (λ h. absurd (omega arith))
-same_turns (suc (suc k)) zero = ne_eqb (suc (suc k)) zero (λ h. absurd (omega arith))
-same_turns (suc (suc k)) (suc zero) = ne_eqb (suc (suc k)) (suc zero) (λ h. absurd (omega arith))
-same_turns (suc (suc k)) (suc (suc j)) = next_same k j
+same_turns (suc zero) (suc (suc zero)) = refl
+same_turns (suc zero) (suc (suc (suc zero))) = refl
+same_turns (suc (suc zero)) zero = refl
+same_turns (suc (suc zero)) (suc zero) = refl
+same_turns (suc (suc zero)) (suc (suc zero)) = refl
+same_turns (suc (suc zero)) (suc (suc (suc zero))) = refl
+same_turns (suc (suc (suc zero))) zero = refl
+same_turns (suc (suc (suc zero))) (suc zero) = refl
+same_turns (suc (suc (suc zero))) (suc (suc zero)) = refl
+same_turns (suc (suc (suc zero))) (suc (suc (suc zero))) = refl
+same_turns zero (suc (suc (suc (suc j)))) = (before_loops 0 j (omega arith)).0
+same_turns (suc zero) (suc (suc (suc (suc j)))) = (before_loops 1 j (omega arith)).0
+same_turns (suc (suc zero)) (suc (suc (suc (suc j)))) = (before_loops 2 j (omega arith)).0
+same_turns (suc (suc (suc zero))) (suc (suc (suc (suc j)))) = (before_loops 3 j (omega arith)).0
+same_turns (suc (suc (suc (suc k)))) zero = (before_loops 0 k (omega arith)).1
+same_turns (suc (suc (suc (suc k)))) (suc zero) = (before_loops 1 k (omega arith)).1
+same_turns (suc (suc (suc (suc k)))) (suc (suc zero)) = (before_loops 2 k (omega arith)).1
+same_turns (suc (suc (suc (suc k)))) (suc (suc (suc zero))) = (before_loops 3 k (omega arith)).1
+same_turns (suc (suc (suc (suc k)))) (suc (suc (suc (suc j)))) = next_same k j
 
 number_is_no_turn : (k n : ℕ) → (false ≡ same_formula (turn_formula k) (formula.Number n)) × (false ≡ same_formula (formula.Number n) (turn_formula k))
 number_is_no_turn zero n = (refl, refl)
 number_is_no_turn (suc zero) n = (refl, refl)
-number_is_no_turn (suc (suc k)) n = (refl, refl)
+number_is_no_turn (suc (suc zero)) n = (refl, refl)
+number_is_no_turn (suc (suc (suc zero))) n = (refl, refl)
+number_is_no_turn (suc (suc (suc (suc k)))) n = (refl, refl)
 
 size_is_no_turn : (k s : ℕ) → (false ≡ same_formula (turn_formula k) (formula.Size s)) × (false ≡ same_formula (formula.Size s) (turn_formula k))
 size_is_no_turn zero s = (refl, refl)
 size_is_no_turn (suc zero) s = (refl, refl)
-size_is_no_turn (suc (suc k)) s = (refl, refl)
+size_is_no_turn (suc (suc zero)) s = (refl, refl)
+size_is_no_turn (suc (suc (suc zero))) s = (refl, refl)
+size_is_no_turn (suc (suc (suc (suc k)))) s = (refl, refl)
 
 operation_is_no_turn : (k : ℕ) (o : Op) (f g : Formula) → (false ≡ same_formula (turn_formula k) (formula.Binary o f g)) × (false ≡ same_formula (formula.Binary o f g) (turn_formula k))
 operation_is_no_turn zero o f g = (refl, refl)
 operation_is_no_turn (suc zero) o f g = (refl, refl)
-operation_is_no_turn (suc (suc k)) o f g = (refl, refl)
+operation_is_no_turn (suc (suc zero)) o f g = (refl, refl)
+operation_is_no_turn (suc (suc (suc zero))) o f g = (refl, refl)
+operation_is_no_turn (suc (suc (suc (suc k)))) o f g = (refl, refl)
 
 no_row : (k : ℕ) (m j : Formula) → false ≡ printed.are_parts (turn_formula k) m j
 no_row zero m j = refl
 no_row (suc zero) m j = refl
-no_row (suc (suc k)) m j = refl
+no_row (suc (suc zero)) m j = refl
+no_row (suc (suc (suc zero))) m j = refl
+no_row (suc (suc (suc (suc k)))) m j = refl
 
 no_column : (e n m : Formula) (k : ℕ) → false ≡ printed.are_parts (formula.Binary Div e n) m (turn_formula k)
 no_column e n m zero = refl
 no_column e n m (suc zero) = refl
-no_column e n m (suc (suc k)) = refl
+no_column e n m (suc (suc zero)) = refl
+no_column e n m (suc (suc (suc zero))) = refl
+no_column e n m (suc (suc (suc (suc k)))) = refl
 
 turn_undivided : (k : ℕ) → turn_formula k ≡ printed.dividend (turn_formula k)
 turn_undivided zero = refl
 turn_undivided (suc zero) = refl
-turn_undivided (suc (suc k)) = refl
+turn_undivided (suc (suc zero)) = refl
+turn_undivided (suc (suc (suc zero))) = refl
+turn_undivided (suc (suc (suc (suc k)))) = refl
 
 same_is : (a b : Expression) → same a b ≡ same_formula (index_formula a) (index_formula b)
 same_is (Variable k l g) (Variable j m h) = same_turns k j

@@ -74,12 +74,12 @@ module _ (p : PlainProgram) (s : State) (l : Lowered) (declared : declared_of l 
       let count = count_of counts l ls are in
       cut_of (Ok (map term_part ls)) (are.unbound, not_passed (tree_of l.term) (annotation_of l.types) (omega (arith, few, count)), are.kernels.terms)
 
-  pub cut_stops : (local : Option ℕ) (why : CutNo) → Refuses why (tree_of l.term) (annotation_of l.types) → StopsFor (CompilesParts (length p.inputs) local s) (cut_refused why)
+  pub cut_stops : (local : Option (ℕ × ℕ)) (why : CutNo) → Refuses why (tree_of l.term) (annotation_of l.types) → StopsFor (CompilesParts (length p.inputs) local s) (cut_refused why)
   cut_stops local (no.Nest place rule) h = inr (inl (no.Nest place rule, cut_of (Err (no.Nest place rule)) h, refl))
   cut_stops local (no.Limit count) h = inr (inl (no.Limit count, cut_of (Err (no.Limit count)) h, refl))
   cut_stops local no.Memory h = inl refl
 
-  pub turn_stops : (local : Option ℕ) (parts : List Part) (why : Refusal) → CutOf (length p.inputs) s (Ok parts) → StopsFor (CompilesInTurn local parts) why → StopsFor (CompilesParts (length p.inputs) local s) why
+  pub turn_stops : (local : Option (ℕ × ℕ)) (parts : List Part) (why : Refusal) → CutOf (length p.inputs) s (Ok parts) → StopsFor (CompilesInTurn local parts) why → StopsFor (CompilesParts (length p.inputs) local s) why
   turn_stops local parts why cut (inl memory) = inl memory
   turn_stops local parts why cut (inr h) = inr (inr (parts, cut, inl h))
 
@@ -89,37 +89,37 @@ pub sequence_terms_first : (program script : List ℕ) (why : Refusal) → Stops
 sequence_terms_first program script =
     stopped_before (λ p terms. Then (LastOf terms) (CompilesParts (length p.inputs) (local_fixed script))) program script
 
-pub sequence_stops : (program script : List ℕ) (t : Typed) (why : Refusal) → IsLastTerm program script t → (local : Option ℕ) → local ≡ local_fixed script
+pub sequence_stops : (program script : List ℕ) (t : Typed) (why : Refusal) → IsLastTerm program script t → (local : Option (ℕ × ℕ)) → local ≡ local_fixed script
     → StopsFor (CompilesParts (length (program_of t.program).inputs) local (state_of t)) why → StopsFor (OnProgram program (λ p. SequenceOf p script)) why
 sequence_stops program script t why last local fixed stops =
     stopped_behind (λ p. CompilesParts (length p.inputs) (local_fixed script)) program script t why last
-    (subst (λ (o : Option ℕ). StopsFor (CompilesParts (length (program_of t.program).inputs) o (state_of t)) why) fixed stops)
+    (subst (λ (o : Option (ℕ × ℕ)). StopsFor (CompilesParts (length (program_of t.program).inputs) o (state_of t)) why) fixed stops)
 
 -- ---- terms and their kernels, one by one
 
-stage_parts : (local : Option ℕ) (ls : List Lowered) (ks : List Kernel) → AreKernelsOfEach local ls ks → map part_of (stages_of ls ks) ≡ map term_part ls
+stage_parts : (local : Option (ℕ × ℕ)) (ls : List Lowered) (ks : List Kernel) → AreKernelsOfEach local ls ks → map part_of (stages_of ls ks) ≡ map term_part ls
 stage_parts local [] ks each = refl
 stage_parts local (l ∷ ls) [] each = absurd each
 stage_parts local (l ∷ ls) (k ∷ ks) each = ap (λ xs. term_part l ∷ xs) (stage_parts local ls ks each.1)
 
-stage_kernels : (local : Option ℕ) (ls : List Lowered) (ks : List Kernel) → AreKernelsOfEach local ls ks → map (λ (k : Stage). k.kernel) (stages_of ls ks) ≡ ks
+stage_kernels : (local : Option (ℕ × ℕ)) (ls : List Lowered) (ks : List Kernel) → AreKernelsOfEach local ls ks → map (λ (k : Stage). k.kernel) (stages_of ls ks) ≡ ks
 stage_kernels local [] [] each = refl
 stage_kernels local [] (k ∷ ks) each = absurd each
 stage_kernels local (l ∷ ls) [] each = absurd each
 stage_kernels local (l ∷ ls) (k ∷ ks) each = ap (λ xs. k ∷ xs) (stage_kernels local ls ks each.1)
 
-stage_outlines : (local : Option ℕ) (ls : List Lowered) (ks : List Kernel) → AreKernelsOfEach local ls ks → map (λ (k : Stage). outline_in (part_of k)) (stages_of ls ks) ≡ map outline_in (map term_part ls)
+stage_outlines : (local : Option (ℕ × ℕ)) (ls : List Lowered) (ks : List Kernel) → AreKernelsOfEach local ls ks → map (λ (k : Stage). outline_in local (part_of k)) (stages_of ls ks) ≡ map (outline_in local) (map term_part ls)
 stage_outlines local [] ks each = refl
 stage_outlines local (l ∷ ls) [] each = absurd each
-stage_outlines local (l ∷ ls) (k ∷ ks) each = ap (λ xs. outline_in (term_part l) ∷ xs) (stage_outlines local ls ks each.1)
+stage_outlines local (l ∷ ls) (k ∷ ks) each = ap (λ xs. outline_in local (term_part l) ∷ xs) (stage_outlines local ls ks each.1)
 
-as_many : (local : Option ℕ) (ls : List Lowered) (ks : List Kernel) → AreKernelsOfEach local ls ks → length ls ≡ length ks
+as_many : (local : Option (ℕ × ℕ)) (ls : List Lowered) (ks : List Kernel) → AreKernelsOfEach local ls ks → length ls ≡ length ks
 as_many local [] [] each = refl
 as_many local [] (k ∷ ks) each = absurd each
 as_many local (l ∷ ls) [] each = absurd each
 as_many local (l ∷ ls) (k ∷ ks) each = let e = as_many local ls ks each.1 in omega (arith, e)
 
-stage_kernels_for : (local : Option ℕ) (ls : List Lowered) (ks : List Kernel) → AreKernelsOfEach local ls ks → AreKernelsFor local (stages_of ls ks)
+stage_kernels_for : (local : Option (ℕ × ℕ)) (ls : List Lowered) (ks : List Kernel) → AreKernelsOfEach local ls ks → AreKernelsFor local (stages_of ls ks)
 stage_kernels_for local [] ks each = tt
 stage_kernels_for local (l ∷ ls) [] each = absurd each
 stage_kernels_for local (l ∷ ls) (k ∷ ks) each = (each.0.kernel, stage_kernels_for local ls ks each.1)
@@ -133,11 +133,11 @@ stage_names names [] ks named = tt
 stage_names names (l ∷ ls) [] named = tt
 stage_names names (l ∷ ls) (k ∷ ks) named = (named zero l refl, stage_names names ls ks (λ i x is. named (suc i) x is))
 
-outlines_laid_out : (names : List Name) (ls : List Lowered) → NamesAll names ls → Every IsLaidOut ls → Every (λ (o : Outline). CanBeLaidOut names o.output) (map outline_in (map term_part ls))
-outlines_laid_out names [] named all = tt
-outlines_laid_out names (l ∷ ls) named all = (
+outlines_laid_out : (local : Option (ℕ × ℕ)) (names : List Name) (ls : List Lowered) → NamesAll names ls → Every IsLaidOut ls → Every (λ (o : Outline). CanBeLaidOut names o.output) (map (outline_in local) (map term_part ls))
+outlines_laid_out local names [] named all = tt
+outlines_laid_out local names (l ∷ ls) named all = (
   subst (λ (ns : List Name). CanBeLaidOut ns (type_in (annotation_of l.types))) (named zero l refl) all.0,
-  outlines_laid_out names ls (λ i x is. named (suc i) x is) all.1,
+  outlines_laid_out local names ls (λ i x is. named (suc i) x is) all.1,
 )
 
 stage_inputs : (d : Declared) (ls : List Lowered) (ks : List Kernel) → NamesAll d.names ls
@@ -156,7 +156,7 @@ stage_inputs d (l ∷ ls) (k ∷ ks) named inputs =
 
 -- ---- what is compiled
 
-module _ (program script : List ℕ) (t : Typed) (last : IsLastTerm program script t) (l : Lowered) (declared : declared_of l ≡ declared_by (program_of t.program)) (state : lowered_state l ≡ state_of t) (local : Option ℕ) (ls : List Lowered) (are : AreKernelsOf l ls) (counts : KernelsAreCounted) (ks : List Kernel) (os : List Outline) (made : AreMadeOf local ls ks os) (text : List ℕ) (texts : AreTexts 0 text ks) (keeping : SequencesKeep) where
+module _ (program script : List ℕ) (t : Typed) (last : IsLastTerm program script t) (l : Lowered) (declared : declared_of l ≡ declared_by (program_of t.program)) (state : lowered_state l ≡ state_of t) (local : Option (ℕ × ℕ)) (ls : List Lowered) (are : AreKernelsOf l ls) (counts : KernelsAreCounted) (ks : List Kernel) (os : List Outline) (made : AreMadeOf local ls ks os) (text : List ℕ) (texts : AreTexts 0 text ks) (keeping : SequencesKeep) where
   abbrev source : PlainProgram
   source = program_of t.program
 
@@ -185,13 +185,11 @@ module _ (program script : List ℕ) (t : Typed) (last : IsLastTerm program scri
       are.kernels.inputs k x is ∙ ap (λ ps. map ty_of l.inputs.items ++ scratch_of (take k ps)) (sym are.kernels.terms)
       ∙ ap (λ (d : Declared). d.inputs ++ scratch_of (take k (map term_part ls))) declared
 
-  compiled_at : (kept : Option ℕ) → kept ≡ local → local ≡ local_fixed script → IsCompiledSequence program script source whole kept os text
-  compiled_at kept is fixed =
-      subst (λ (o : Option ℕ). IsCompiledSequence program script source whole o os text) (sym is)
-      (record {
+  compiled_at : local ≡ local_fixed script → IsCompiledSequence program script source whole os text
+  compiled_at fixed =
+      record {
         read = last.read;
         typed = typed;
-        fixed = fixed;
         parts = map term_part ls;
         compiled = (
           last.terms,
@@ -202,44 +200,43 @@ module _ (program script : List ℕ) (t : Typed) (last : IsLastTerm program scri
             (
               map term_part ls,
               cut_made source (state_of t) l declared state counts ls are,
-              (tt, subst (λ (o : Option ℕ). CompilesInTurn o (map term_part ls) (Ok tt)) fixed made.compiled, refl),
+              (tt, subst (λ (o : Option (ℕ × ℕ)). CompilesInTurn o (map term_part ls) (Ok tt)) fixed made.compiled, refl),
             ),
           ),
         );
-        outlined = sym made.outlined;
+        outlined = subst (λ (o : Option (ℕ × ℕ)). map (outline_in o) (map term_part ls) ≡ os) fixed (sym made.outlined);
         kernels = stages_of ls ks;
         terms = stage_parts local ls ks made.each;
         inputs = stage_inputs (declared_by source) ls ks named behind;
-        each = stage_kernels_for local ls ks made.each;
+        each = subst (λ (o : Option (ℕ × ℕ)). AreKernelsFor o (stages_of ls ks)) fixed (stage_kernels_for local ls ks made.each);
         written = written;
-        keep = keep;
-      })
+        keep = subst (λ (o : Option (ℕ × ℕ)). SequenceKeeps (declared_by source) o source.body whole (stages_of ls ks)) fixed keep;
+      }
 
-  pub sequence_found : (output : PlainTy) (kept : Option ℕ) → output ≡ whole → kept ≡ local → local ≡ local_fixed script → IsCompiledSequence program script source output kept os text
-  sequence_found output kept same is fixed =
-      subst (λ (a : PlainTy). IsCompiledSequence program script source a kept os text) (sym same) (compiled_at kept is fixed)
+  pub sequence_found : (output : PlainTy) → output ≡ whole → local ≡ local_fixed script → IsCompiledSequence program script source output os text
+  sequence_found output same fixed = subst (λ (a : PlainTy). IsCompiledSequence program script source a os text) (sym same) (compiled_at fixed)
 
   ends : LastKernelsMakeTheOutput → EndsWith os whole
   ends law =
       let c = cut_off (length l.inputs.items) [] (tree_of l.term) (annotation_of l.types) in (
-        map outline_in c.made,
-        outline_in c.left,
-        made.outlined ∙ ap (map outline_in) are.kernels.terms ∙ map-append outline_in c.made (c.left ∷ []),
+        map (outline_in local) c.made,
+        outline_in local c.left,
+        made.outlined ∙ ap (map (outline_in local)) are.kernels.terms ∙ map-append (outline_in local) c.made (c.left ∷ []),
         law (length l.inputs.items) (tree_of l.term) (annotation_of l.types),
       )
 
   -- what a type keeps of it
-  pub sequence_for : LastKernelsMakeTheOutput → (output : PlainTy) (kept : Option ℕ) → output ≡ whole → kept ≡ local → IsSequenceFor source output kept os text
-  sequence_for law output kept same is =
-      subst (λ (a : PlainTy). IsSequenceFor source a kept os text) (sym same)
-      (subst (λ (o : Option ℕ). IsSequenceFor source whole o os text) (sym is)
+  pub sequence_for : LastKernelsMakeTheOutput → (output : PlainTy) → output ≡ whole → IsSequenceFor source output os text
+  sequence_for law output same =
+      subst (λ (a : PlainTy). IsSequenceFor source a os text) (sym same)
       (record {
         typed = typed;
-        laid_out = subst (Every (λ (o : Outline). CanBeLaidOut (declared_by source).names o.output)) (sym made.outlined) (outlines_laid_out (declared_by source).names ls named made.laid_out);
+        laid_out = subst (Every (λ (o : Outline). CanBeLaidOut (declared_by source).names o.output)) (sym made.outlined) (outlines_laid_out local (declared_by source).names ls named made.laid_out);
         last = ends law;
+        local = local;
         kernels = stages_of ls ks;
         outlined = stage_outlines local ls ks made.each ∙ sym made.outlined;
         names = stage_names (declared_by source).names ls ks named;
         written = written;
         keep = keep;
-      }))
+      })

@@ -34,11 +34,11 @@ use Rattle.compilation.specs.Meets.{CanBeLaidOut}
 -- ---- a plan gives its term's kernel
 
 -- what is kept with a term's spaces is the term, and the local size
-pub kernel_of_same : (l : Lowered) (local : Option ℕ) (s : Spaced) → s.mapped.lowered ≡ l → s.mapped.local ≡ local → (k : Kernel) → IsKernelOf s.mapped.lowered s.mapped.local k → IsKernelOf l local k
+pub kernel_of_same : (l : Lowered) (local : Option (ℕ × ℕ)) (s : Spaced) → s.mapped.lowered ≡ l → s.mapped.local ≡ local → (k : Kernel) → IsKernelOf s.mapped.lowered s.mapped.local k → IsKernelOf l local k
 kernel_of_same l local s same fixed k h =
-    subst (λ (o : Option ℕ). IsKernelOf l o k) fixed (subst (λ (m : Lowered). IsKernelOf m s.mapped.local k) same h)
+    subst (λ (o : Option (ℕ × ℕ)). IsKernelOf l o k) fixed (subst (λ (m : Lowered). IsKernelOf m s.mapped.local k) same h)
 
-pub kernel_of_plan : (l : Lowered) → IsSoundLowered l → (local : Option ℕ) (plan : Plan) → local_in plan ≡ local → plan.spaced.now.mapped.lowered ≡ l → PlansGiveKernels → IsTold plan
+pub kernel_of_plan : (l : Lowered) → IsSoundLowered l → (local : Option (ℕ × ℕ)) (plan : Plan) → local_in plan ≡ local → plan.spaced.now.mapped.lowered ≡ l → PlansGiveKernels → IsTold plan
     → (k : Kernel) → k ≡ tidied_for plan → IsKernelOf l local k
 kernel_of_plan l sound local plan fixed same law told k is =
     kernel_of_same l local plan.spaced.now same fixed k

@@ -31,16 +31,16 @@ turned (z ∷ all) (y ∷ xs) x same less next =
 
 -- ---- the stages of each in turn
 
-in_turn_more : (local : Option ℕ) (xs ys : List Part) (r : Result (Unit {0}) Refusal) → CompilesInTurn local xs (Ok tt) → CompilesInTurn local ys r → CompilesInTurn local (xs ++ ys) r
+in_turn_more : (local : Option (ℕ × ℕ)) (xs ys : List Part) (r : Result (Unit {0}) Refusal) → CompilesInTurn local xs (Ok tt) → CompilesInTurn local ys r → CompilesInTurn local (xs ++ ys) r
 in_turn_more local [] ys r h k = k
 in_turn_more local (x ∷ xs) ys (Ok u) h k = (h.0, h.1, in_turn_more local xs ys (Ok u) h.2 k)
 in_turn_more local (x ∷ xs) ys (Err e) h k = inr (h.0, h.1, in_turn_more local xs ys (Err e) h.2 k)
 
-stops_in_turn : (local : Option ℕ) (xs : List Part) (x : Part) (rest : List Part) (why : Refusal) → CompilesInTurn local xs (Ok tt) → StopsFor (CompilesTerm local (state_in x)) why → StopsFor (CompilesInTurn local (xs ++ x ∷ rest)) why
+stops_in_turn : (local : Option (ℕ × ℕ)) (xs : List Part) (x : Part) (rest : List Part) (why : Refusal) → CompilesInTurn local xs (Ok tt) → StopsFor (CompilesTerm local (state_in x)) why → StopsFor (CompilesInTurn local (xs ++ x ∷ rest)) why
 stops_in_turn local xs x rest why done (inl memory) = inl memory
 stops_in_turn local xs x rest why done (inr h) = inr (in_turn_more local xs (x ∷ rest) (Err why) done (inl h))
 
-pub stops_among : (local : Option ℕ) (all ls : List Lowered) (l : Lowered) (why : Refusal) → Turned all ls l → CompilesInTurn local (map term_part ls) (Ok tt) → StopsFor (CompilesTerm local (lowered_state l)) why
+pub stops_among : (local : Option (ℕ × ℕ)) (all ls : List Lowered) (l : Lowered) (why : Refusal) → Turned all ls l → CompilesInTurn local (map term_part ls) (Ok tt) → StopsFor (CompilesTerm local (lowered_state l)) why
     → StopsFor (CompilesInTurn local (map term_part all)) why
 stops_among local all ls l why at done h =
     subst (λ (xs : List Part). StopsFor (CompilesInTurn local xs) why) (sym (ap (map term_part) at.are ∙ map-append term_part ls (l ∷ at.rest)))
@@ -55,17 +55,17 @@ every_in P (y ∷ xs) rest x all = every_in P xs rest x all.1
 pub every_at : {A : Type 0} (P : A → Type 0) (all xs : List A) (x : A) → Turned all xs x → Every P all → P x
 every_at P all xs x at h = every_in P xs at.rest x (subst (λ ys. Every P ys) at.are h)
 
-each_more : (local : Option ℕ) (ls : List Lowered) (ks : List Kernel) (l : Lowered) (k : Kernel) → AreKernelsOfEach local ls ks → IsKernelOf local l k → AreKernelsOfEach local (ls ++ l ∷ []) (ks ++ k ∷ [])
+each_more : (local : Option (ℕ × ℕ)) (ls : List Lowered) (ks : List Kernel) (l : Lowered) (k : Kernel) → AreKernelsOfEach local ls ks → IsKernelOf local l k → AreKernelsOfEach local (ls ++ l ∷ []) (ks ++ k ∷ [])
 each_more local [] [] l k each h = (h, tt)
 each_more local [] (j ∷ ks) l k each h = absurd each
 each_more local (m ∷ ls) [] l k each h = absurd each
 each_more local (m ∷ ls) (j ∷ ks) l k each h = (each.0, each_more local ls ks l k each.1 h)
 
-pub none_made : (local : Option ℕ) (ks : List Kernel) (os : List Outline) → ks ≡ [] → os ≡ [] → AreMadeOf local [] ks os
+pub none_made : (local : Option (ℕ × ℕ)) (ks : List Kernel) (os : List Outline) → ks ≡ [] → os ≡ [] → AreMadeOf local [] ks os
 none_made local ks os no_kernels no_outlines =
     record { each = subst (AreKernelsOfEach local []) (sym no_kernels) tt; outlined = no_outlines; laid_out = tt; compiled = refl }
 
-pub one_made : (local : Option ℕ) (ls : List Lowered) (ks kss : List Kernel) (os oss : List Outline) (l : Lowered) (k : Kernel) (o : Outline) → AreMadeOf local ls ks os → IsKernelOf local l k → o ≡ outline_in (term_part l) → IsLaidOut l
+pub one_made : (local : Option (ℕ × ℕ)) (ls : List Lowered) (ks kss : List Kernel) (os oss : List Outline) (l : Lowered) (k : Kernel) (o : Outline) → AreMadeOf local ls ks os → IsKernelOf local l k → o ≡ outline_in local (term_part l) → IsLaidOut l
     → CompilesTerm local (lowered_state l) (Ok (lowered_state l)) → kss ≡ ks ++ k ∷ [] → oss ≡ os ++ o ∷ [] → AreMadeOf local (ls ++ l ∷ []) kss oss
 one_made local ls ks kss os oss l k o made kernel outline laid compiled more_kernels more_outlines =
     let more = map-append term_part ls (l ∷ []) in
@@ -73,12 +73,12 @@ one_made local ls ks kss os oss l k o made kernel outline laid compiled more_ker
       each = subst (AreKernelsOfEach local (ls ++ l ∷ [])) (sym more_kernels) (each_more local ls ks l k made.each kernel);
       outlined =
           more_outlines ∙ ap₂ (λ xs x. xs ++ x ∷ []) made.outlined outline
-          ∙ sym (ap (map outline_in) more ∙ map-append outline_in (map term_part ls) (term_part l ∷ []));
+          ∙ sym (ap (map (outline_in local)) more ∙ map-append (outline_in local) (map term_part ls) (term_part l ∷ []));
       laid_out = every_more IsLaidOut ls l made.laid_out laid;
       compiled =
           subst (λ (xs : List Part). CompilesInTurn local xs (Ok tt)) (sym more)
           (in_turn_more local (map term_part ls) (term_part l ∷ []) (Ok tt) made.compiled (lowered_state l, compiled, refl));
     }
 
-pub all_made : (local : Option ℕ) (ls all : List Lowered) (ks : List Kernel) (os : List Outline) → map (λ (l : Lowered). l) ls ≡ all → AreMadeOf local ls ks os → AreMadeOf local all ks os
+pub all_made : (local : Option (ℕ × ℕ)) (ls all : List Lowered) (ks : List Kernel) (os : List Outline) → map (λ (l : Lowered). l) ls ≡ all → AreMadeOf local ls ks os → AreMadeOf local all ks os
 all_made local ls all ks os end made = subst (λ (xs : List Lowered). AreMadeOf local xs ks os) (sym (map-id ls) ∙ end) made

@@ -16,7 +16,9 @@ use Rattle.lowered_tree.specs.Nest.{IsLegalNest, IsLegalWith, LegalWithoutFault,
 use Rattle.lowered_tree.specs.Whole.{IsSoundTerm}
 use Rattle.lowered_tree.specs.Words.{FormsHaveWords}
 use Rattle.lowered_tree.specs.declared.lowered.Lowered.{Lowered}
+use Rattle.nest_premises.specs.Laws.{TermsAskForRows}
 use Rattle.nest_premises.specs.Legal.{IsLegalTerm}
+use Rattle.sequence_runs.specs.Stages.{AsksForRow}
 use Rattle.thread_mapping.specs.Found as nest
 use Rattle.thread_mapping.specs.declared.judging.NestNo.{NestNo}
 use Rattle.thread_mapping.specs.declared.judging.NestNo.TheVariants as nests
@@ -81,7 +83,7 @@ legal_term d s sound legal = record {
   legal = legal;
 }
 
-pub accepted_term : (p : PlainProgram) (local : Option ℕ) (s : State) → IsSoundTerm (declared_by p) s.tree s.types → CompilesTerm local s (Ok s) → IsAccepted p s.tree s.types
+pub accepted_term : (p : PlainProgram) (local : Option (ℕ × ℕ)) (s : State) → IsSoundTerm (declared_by p) s.tree s.types → CompilesTerm local s (Ok s) → IsAccepted p s.tree s.types
 accepted_term p local s sound compiled =
     let low = sound.low in
     record {
@@ -91,14 +93,18 @@ accepted_term p local s sound compiled =
       low = omega (arith, low);
     }
 
+-- without a map of rows it asks for one work-item, or for one row
+pub asks_for_row : TermsAskForRows → (local : Option (ℕ × ℕ)) (l : Lowered) → IsSoundLowered l → CompilesTerm local (lowered_state l) (Ok (lowered_state l)) → AsksForRow local (declared_of l) (tree_of l.term) (annotation_of l.types)
+asks_for_row law local l sound compiled = law (declared_of l) (tree_of l.term) (annotation_of l.types) local (legal_term (declared_of l) (lowered_state l) sound (compiled.1.nest)) sound.copies
+
 -- ---- each stage, over the term as it is handed on
 
-pub legal_nest : LegalWithoutFault → (local kept : Option ℕ) (l m : Lowered) → kept ≡ local → m ≡ l → nest_fault kept (tree_of m.term) (annotation_of m.types) ≡ None → IsLegalWith local (tree_of l.term) (annotation_of l.types)
+pub legal_nest : LegalWithoutFault → (local kept : Option (ℕ × ℕ)) (l m : Lowered) → kept ≡ local → m ≡ l → nest_fault kept (tree_of m.term) (annotation_of m.types) ≡ None → IsLegalWith local (tree_of l.term) (annotation_of l.types)
 legal_nest law local kept l m size same h =
-    subst (λ (o : Option ℕ). IsLegalWith o (tree_of l.term) (annotation_of l.types)) size
+    subst (λ (o : Option (ℕ × ℕ)). IsLegalWith o (tree_of l.term) (annotation_of l.types)) size
     (subst (λ (x : Lowered). IsLegalWith kept (tree_of x.term) (annotation_of x.types)) same ((law kept (tree_of m.term) (annotation_of m.types)).0 h))
 
-pub nest_stops : (local : Option ℕ) (l : Lowered) (why : NestNo) → nest.Refuses why local (tree_of l.term) (annotation_of l.types) → StopsFor (As told.Nest (NestOf local (lowered_state l))) (nest_refused why)
+pub nest_stops : (local : Option (ℕ × ℕ)) (l : Lowered) (why : NestNo) → nest.Refuses why local (tree_of l.term) (annotation_of l.types) → StopsFor (As told.Nest (NestOf local (lowered_state l))) (nest_refused why)
 nest_stops local l (nests.Nest place rule) h = inr (nests.Nest place rule, h, refl)
 nest_stops local l nests.Memory h = inl refl
 
@@ -112,13 +118,13 @@ buffers_stop l m allocations.Memory same h = inl refl
 
 -- ---- all stages
 
-pub compiles : (local : Option ℕ) (s : State) → IsLegalWith local s.tree s.types → limits.passed_limit s.tree s.types ≡ None → CompilesTerm local s (Ok s)
+pub compiles : (local : Option (ℕ × ℕ)) (s : State) → IsLegalWith local s.tree s.types → limits.passed_limit s.tree s.types ≡ None → CompilesTerm local s (Ok s)
 compiles local s legal within = (tt, legal, (tt, within, refl))
 
-pub at_nest : (local : Option ℕ) (s : State) (why : Refusal) → StopsFor (As told.Nest (NestOf local s)) why → StopsFor (CompilesTerm local s) why
+pub at_nest : (local : Option (ℕ × ℕ)) (s : State) (why : Refusal) → StopsFor (As told.Nest (NestOf local s)) why → StopsFor (CompilesTerm local s) why
 at_nest local s why (inl memory) = inl memory
 at_nest local s why (inr h) = inr (inl h)
 
-pub at_buffers : (local : Option ℕ) (s : State) (why : Refusal) → IsLegalWith local s.tree s.types → StopsFor (As told.Alloc (BuffersOf s)) why → StopsFor (CompilesTerm local s) why
+pub at_buffers : (local : Option (ℕ × ℕ)) (s : State) (why : Refusal) → IsLegalWith local s.tree s.types → StopsFor (As told.Alloc (BuffersOf s)) why → StopsFor (CompilesTerm local s) why
 at_buffers local s why legal (inl memory) = inl memory
 at_buffers local s why legal (inr h) = inr (inr (tt, legal, inl h))

@@ -20,7 +20,7 @@ use Rattle.compilation.specs.Laws.{CompilationEndsOnce, SequencesEndOnce}
 use Rattle.compilation.specs.Legal.{BuffersOf, CompilesTerm, LegalOf, NestOf}
 use Rattle.compilation.specs.Sequence.{CompilesInTurn, CompilesParts, CutOf, SequenceOf, state_in}
 
-nest_one : LegalWithoutFault → (local : Option ℕ) (s : State) → IsOne (NestOf local s)
+nest_one : LegalWithoutFault → (local : Option (ℕ × ℕ)) (s : State) → IsOne (NestOf local s)
 nest_one law local s (Ok x) (Ok y) h k = refl
 nest_one law local s (Ok x) (Err (nests.Nest place rule)) h k = absurd (none-some _ (sym ((law local s.tree s.types).1 h) ∙ k))
 nest_one law local s (Err (nests.Nest place rule)) (Ok x) h k = absurd (none-some _ (sym ((law local s.tree s.types).1 k) ∙ h))
@@ -36,7 +36,7 @@ buffers_one s (Err (allocations.Limit w n)) (Err (allocations.Limit v m)) h k = 
 buffers_one s (Err allocations.Memory) r h k = absurd h
 buffers_one s r (Err allocations.Memory) h k = absurd k
 
-compiles_one : LegalWithoutFault → (local : Option ℕ) (s : State) → IsOne (CompilesTerm local s)
+compiles_one : LegalWithoutFault → (local : Option (ℕ × ℕ)) (s : State) → IsOne (CompilesTerm local s)
 compiles_one law local s =
     then_one (As told.Nest (NestOf local s)) _ (as_one told.Nest (NestOf local s) (nest_one law local s)) (λ legal _.
     then_one (As told.Alloc (BuffersOf s)) _ (as_one told.Alloc (BuffersOf s) (buffers_one s)) (λ within _. gives_one s))
@@ -62,12 +62,12 @@ cut_one i s (Err (cuts.Limit n)) (Err (cuts.Limit m)) h k = ap (λ x. Err (cuts.
 cut_one i s (Err cuts.Memory) r h k = absurd h
 cut_one i s r (Err cuts.Memory) h k = absurd k
 
-in_turn_one : LegalWithoutFault → (local : Option ℕ) (xs : List Part) → IsOne (CompilesInTurn local xs)
+in_turn_one : LegalWithoutFault → (local : Option (ℕ × ℕ)) (xs : List Part) → IsOne (CompilesInTurn local xs)
 in_turn_one law local [] = gives_one tt
 in_turn_one law local (x ∷ xs) =
     then_one (CompilesTerm local (state_in x)) (λ _. CompilesInTurn local xs) (compiles_one law local (state_in x)) (λ s _. in_turn_one law local xs)
 
-parts_one : LegalWithoutFault → (i : ℕ) (local : Option ℕ) (s : State) → IsOne (CompilesParts i local s)
+parts_one : LegalWithoutFault → (i : ℕ) (local : Option (ℕ × ℕ)) (s : State) → IsOne (CompilesParts i local s)
 parts_one law i local s =
     then_one (As told.Cut (CutOf i s)) (λ parts. Then (CompilesInTurn local parts) (λ _. Gives parts)) (as_one told.Cut (CutOf i s) (cut_one i s)) (λ parts _.
     then_one (CompilesInTurn local parts) (λ _. Gives parts) (in_turn_one law local parts) (λ u _. gives_one parts))

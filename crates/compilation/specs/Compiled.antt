@@ -21,13 +21,13 @@ use Rattle.compilation.specs.Legal.{IsAccepted, LegalOf}
 use Rattle.compilation.specs.Meets.{Admits, MeetsSource, Starts}
 
 -- at each admissible launch the kernel is printed for the last term, as its kind says
-abbrev pub PrintsAtAll : PlainProgram → (local : Option ℕ) → State → Kernel → Type 0
+abbrev pub PrintsAtAll : PlainProgram → (local : Option (ℕ × ℕ)) → State → Kernel → Type 0
 PrintsAtAll p local s k = kernels.PrintsAtAll (declared_by p) local s.tree s.types k
 
 -- its barriers serve at every launch and on all cells at which the program may run: the items of a
 -- group meet the same barriers with the same turn numbers, and between two releases with the local
 -- flag each cell of a local array that is written is one item's
-abbrev pub ServesAtAll : PlainProgram → (output : PlainTy) → (local : Option ℕ) → (last : State)
+abbrev pub ServesAtAll : PlainProgram → (output : PlainTy) → (local : Option (ℕ × ℕ)) → (last : State)
     → Kernel → Type 0
 ServesAtAll p output local last k =
     (w : World) (l : Launch) (c : Cells) → Admits p output (asks_of local last.tree) w l c

@@ -35,7 +35,7 @@ abbrev pub IsSoundLowered : Lowered → Type 0
 IsSoundLowered l = IsSoundTerm (declared_of l) (tree_of l.term) (annotation_of l.types)
 
 -- a kernel printed for a lowered term, where the local size is fixed so
-abbrev pub IsKernelOf : Lowered → Option ℕ → Kernel → Type 0
+abbrev pub IsKernelOf : Lowered → Option (ℕ × ℕ) → Kernel → Type 0
 IsKernelOf l local k = IsKernelFor (declared_of l) local (tree_of l.term) (annotation_of l.types) k
 
 -- a lowered term, as a script's terms are
@@ -51,7 +51,7 @@ pub record IsAccepted (p : PlainProgram) (t : Tree) (n : Annotation) : Type 0 wh
 
 -- the nest is legal with the local size that is fixed, where one is; or this is the first node in
 -- preorder at which a rule is broken, and the lowest such rule
-abbrev pub NestOf : Option ℕ → State → Result (Unit {0}) NestNo → Type 0
+abbrev pub NestOf : Option (ℕ × ℕ) → State → Result (Unit {0}) NestNo → Type 0
 NestOf local s (Ok legal) = IsLegalWith local s.tree s.types
 NestOf local s (Err (nests.Nest place rule)) = nest_fault local s.tree s.types ≡ Some (place, rule)
 NestOf local s (Err nests.Memory) = ⊥
@@ -65,7 +65,7 @@ BuffersOf s (Err (allocations.Limit which count)) =
 BuffersOf s (Err allocations.Memory) = ⊥
 
 -- the term is compiled, or the first stage that stops: its nest, its buffers
-abbrev pub CompilesTerm : Option ℕ → State → Result State Refusal → Type 0
+abbrev pub CompilesTerm : Option (ℕ × ℕ) → State → Result State Refusal → Type 0
 CompilesTerm local last =
     Then (As told.Nest (NestOf local last))
     (λ _. Then (As told.Alloc (BuffersOf last)) (λ _. Gives last))

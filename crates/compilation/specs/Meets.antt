@@ -1,8 +1,8 @@
 -- What a compiled kernel owes its program.
-use Rattle.std.specs.Prelude.{◌≡◌, ◌<◌, ◌^◌, ℕ, List, Bool, Option, map, length}
+use Rattle.std.specs.Prelude.{◌≡◌, ◌<◌, ◌^◌, ℕ, List, Option, map, length}
 use Rattle.kernel_tree.specs.Code.{Kernel}
 use Rattle.kernel_tree.specs.KernelText.{IsKernelText, lift}
-use Rattle.kernel_tree.specs.Launch.{Launch, Cells, IsFlat, MayStart}
+use Rattle.kernel_tree.specs.Launch.{Launch, Cells, MayStart}
 use Rattle.lift_tree.specs.Launches.{Asks, IsAdmissibleLaunch, buffers_of, lists_of}
 use Rattle.lift_tree.specs.Meaning.{World}
 use Rattle.lift_tree.specs.Programs.{PlainProgram}
@@ -17,19 +17,14 @@ use Rattle.printed_form.specs.Programs.{cell_owner}
 use Rattle.value_lists.specs.Lists.{IsSmall, width}
 use Rattle.program_source.specs.Program.{source_value}
 
--- what is asked of a launch: one work-item alone, and a local size
-abbrev pub asks_with : Bool → Option ℕ → Asks
-asks_with alone local = record { alone = alone; local = local }
-
 -- A launch and cells at which a program may run, where the world has its sizes and inputs:
--- the launch is one row, the sizes are within their ranges and the inputs of their types,
--- the buffers hold the inputs, and there is one for each component of the output, of its
+-- the launch is as it is asked for, the sizes are within their ranges and the inputs of their
+-- types, the buffers hold the inputs, and there is one for each component of the output, of its
 -- length. Outputs hold anything.
 pub record Admits (p : PlainProgram) (output : PlainTy) (asks : Asks) (w : World) (l : Launch)
     (c : Cells) : Type 0 where
   pub world : IsAdmissible (declared_by p) w
-  pub flat : IsFlat l
-  pub launch : IsAdmissibleLaunch (declared_by p).names asks w.bases l.global.0 l.local.0
+  pub launch : IsAdmissibleLaunch (declared_by p).names asks w.bases l.global l.local
   pub sizes : l.sizes ≡ w.sizes
   pub inputs : c.ins ≡ buffers_of (declared_by p).inputs w.inputs
   pub outputs : map length c.outs ≡ map length (lists_of output (source_value p w))
@@ -48,7 +43,7 @@ LeavesSource p output asks k = (w : World) (l : Launch) (c : Cells) → Admits p
     → EveryRunLeaves k l c (lists_of output (source_value p w))
 
 -- And each cell is written by its owner, which the last term tells.
-abbrev pub MeetsSource : PlainProgram → (output : PlainTy) → (local : Option ℕ) → (last : State)
+abbrev pub MeetsSource : PlainProgram → (output : PlainTy) → (local : Option (ℕ × ℕ)) → (last : State)
     → Kernel → Type 0
 MeetsSource p output local last k =
     (w : World) (l : Launch) (c : Cells) → Admits p output (asks_of local last.tree) w l c

@@ -1,14 +1,16 @@
 -- A program and a script, compiled to kernels in order.
-use Rattle.std.specs.Prelude.{◌≡◌, ℕ, List, [], ◌∷◌, ◌++◌, map, length, Bool, false, Option, Some, None, Result, Ok, Err}
+use Rattle.std.specs.Prelude.{◌≡◌, ℕ, List, [], ◌∷◌, ◌++◌, map, length, false, Option, Some, None, Result, Ok, Err}
 use Rattle.kernel_spelling.specs.SequenceText.{IsSequenceText}
 use Rattle.kernel_tree.specs.Code.{Kernel}
 use Rattle.lift_tree.specs.Annotations.{annotation_of, type_in}
+use Rattle.lift_tree.specs.FixedSizes.{asked}
+use Rattle.lift_tree.specs.Launches.{Asks}
 use Rattle.lift_tree.specs.Lists.{Every}
 use Rattle.lift_tree.specs.Programs.{PlainProgram, program_of}
 use Rattle.lift_tree.specs.Types.{PlainTy, ty_of}
 use Rattle.lift_tree.specs.Typing.{Declared, HasOutput, declared_by}
 use Rattle.lift_tree.specs.declared.typed.Typed.{Typed}
-use Rattle.lowered_tree.specs.Kinds.{is_task}
+use Rattle.lowered_tree.specs.Kinds.{asks_of}
 use Rattle.lowered_tree.specs.Named.{declared_of}
 use Rattle.lowered_tree.specs.declared.lowered.Lowered.{Lowered}
 use Rattle.lowered_tree.specs.declared.rule.NestRule.TheVariants.{N13}
@@ -52,14 +54,14 @@ CutOf i s (Err (cuts.Limit count)) =
 CutOf i s (Err cuts.Memory) = ⊥
 
 -- each kernel's own stages in turn: its nest, then its buffers; only then the next kernel's
-abbrev pub CompilesInTurn : Option ℕ → List Part → Result (Unit {0}) Refusal → Type 0
+abbrev pub CompilesInTurn : Option (ℕ × ℕ) → List Part → Result (Unit {0}) Refusal → Type 0
 CompilesInTurn local [] = Gives tt
 CompilesInTurn local (x ∷ xs) =
     Then (CompilesTerm local (state_in x)) (λ _. CompilesInTurn local xs)
 
 -- the terms of a last term's kernels, where all are compiled; or the first stage that
 -- stops: the cut, then each kernel's
-abbrev pub CompilesParts : (inputs : ℕ) → Option ℕ → State → Result (List Part) Refusal → Type 0
+abbrev pub CompilesParts : (inputs : ℕ) → Option (ℕ × ℕ) → State → Result (List Part) Refusal → Type 0
 CompilesParts i local last =
     Then (As told.Cut (CutOf i last))
     (λ parts. Then (CompilesInTurn local parts) (λ _. Gives parts))
@@ -73,19 +75,19 @@ SequenceOf p script =
 
 -- ---- what is compiled
 
--- what is to be known of a kernel before it is run: whether one work-item runs
--- it, and the type of what it makes
+-- what is to be known of a kernel before it is run: what it asks of its launches, and the type of
+-- what it makes
 pub record Outline : Type 0 where
-  pub alone : Bool
+  pub asks : Asks
   pub output : PlainTy
 
--- the outline of a term and its types
-abbrev pub outline_in : Part → Outline
-outline_in x = record { alone = is_task x.tree; output = type_in x.types }
+-- the outline of a term and its types, with the local size that is fixed
+abbrev pub outline_in : (local : Option (ℕ × ℕ)) → Part → Outline
+outline_in local x = record { asks = asks_of local x.tree; output = type_in x.types }
 
 -- the outline of a kernel, as code holds it
 abbrev pub outline_of : KernelOutline → Outline
-outline_of k = record { alone = k.is_task; output = ty_of k.output }
+outline_of k = record { asks = asked k.asks; output = ty_of k.output }
 
 -- the term of a kernel of a sequence
 abbrev pub part_of : Stage → Part
@@ -103,7 +105,7 @@ HaveInputsBehind d (k ∷ ks) =
     (k.declared ≡ d) × HaveInputsBehind (with_input d (type_in k.types)) ks
 
 -- each kernel is its own term's, with groups of the local size that is fixed
-abbrev pub AreKernelsFor : Option ℕ → List Stage → Type 0
+abbrev pub AreKernelsFor : Option (ℕ × ℕ) → List Stage → Type 0
 AreKernelsFor local = Every (λ (k : Stage). IsKernelFor k.declared local k.tree k.types k.kernel)
 
 -- the output of a term's kernel can be laid out
@@ -111,15 +113,15 @@ abbrev pub IsLaidOut : Lowered → Type 0
 IsLaidOut l = CanBeLaidOut l.names (type_in (annotation_of l.types))
 
 -- The kernels of these terms in order, each of which is compiled, with an outline of each.
-pub record AreMadeOf (local : Option ℕ) (terms : List Lowered) (kernels : List Kernel)
+pub record AreMadeOf (local : Option (ℕ × ℕ)) (terms : List Lowered) (kernels : List Kernel)
     (outlines : List Outline) : Type 0 where
   pub each : AreKernelsOfEach local terms kernels
-  pub outlined : outlines ≡ map outline_in (map term_part terms)
+  pub outlined : outlines ≡ map (outline_in local) (map term_part terms)
   pub laid_out : Every IsLaidOut terms
   pub compiled : CompilesInTurn local (map term_part terms) (Ok tt)
 
 -- The kernels in order of a typed last term: of the terms that it is cut into.
-pub record AreKernelsOfLast (last : Typed) (local : Option ℕ) (kernels : List Kernel)
+pub record AreKernelsOfLast (last : Typed) (local : Option (ℕ × ℕ)) (kernels : List Kernel)
     (outlines : List Outline) : Type 0 where
   pub whole : Lowered
   pub declared : declared_of whole ≡ declared_by (program_of last.program)
@@ -137,19 +139,18 @@ pub record AreKernelsOfLast (last : Typed) (local : Option ℕ) (kernels : List 
 -- its kernel's output at most once, by its owner; and the last kernel's can stop only with the
 -- program's value, which is of the output's type.
 pub record IsCompiledSequence (program script : List ℕ) (p : PlainProgram) (output : PlainTy)
-    (local : Option ℕ) (outlines : List Outline) (text : List ℕ) : Type 0 where
+    (outlines : List Outline) (text : List ℕ) : Type 0 where
   pub read : IsRead program p
   pub typed : HasOutput p p.body output
-  pub fixed : local ≡ local_fixed script
   pub parts : List Part
   pub compiled : SequenceOf p script (Ok parts)
-  pub outlined : map outline_in parts ≡ outlines
+  pub outlined : map (outline_in (local_fixed script)) parts ≡ outlines
   pub kernels : List Stage
   pub terms : map part_of kernels ≡ parts
   pub inputs : HaveInputsBehind (declared_by p) kernels
-  pub each : AreKernelsFor local kernels
+  pub each : AreKernelsFor (local_fixed script) kernels
   pub written : IsSequenceText text (map (λ (k : Stage). k.kernel) kernels)
-  pub keep : SequenceKeeps (declared_by p) local p.body output kernels
+  pub keep : SequenceKeeps (declared_by p) (local_fixed script) p.body output kernels
 
 -- this is the last of them
 abbrev pub EndsWith : List Outline → PlainTy → Type 0
@@ -158,13 +159,14 @@ EndsWith outlines a =
 
 -- The text is of kernels for the program in order: over its sizes, and run in order they keep the
 -- program's value, which is of the output's type, the last kernel's.
-pub record IsSequenceFor (p : PlainProgram) (output : PlainTy) (local : Option ℕ)
-    (outlines : List Outline) (text : List ℕ) : Type 0 where
+pub record IsSequenceFor (p : PlainProgram) (output : PlainTy) (outlines : List Outline)
+    (text : List ℕ) : Type 0 where
   pub typed : HasOutput p p.body output
   pub laid_out : Every (λ (o : Outline). CanBeLaidOut (declared_by p).names o.output) outlines
   pub last : EndsWith outlines output
+  pub local : Option (ℕ × ℕ)
   pub kernels : List Stage
-  pub outlined : map (λ (k : Stage). outline_in (part_of k)) kernels ≡ outlines
+  pub outlined : map (λ (k : Stage). outline_in local (part_of k)) kernels ≡ outlines
   pub names : Every (λ (k : Stage). k.declared.names ≡ (declared_by p).names) kernels
   pub written : IsSequenceText text (map (λ (k : Stage). k.kernel) kernels)
   pub keep : SequenceKeeps (declared_by p) local p.body output kernels

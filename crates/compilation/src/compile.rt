@@ -1,22 +1,24 @@
 //! A program and a script, compiled to the text of a kernel.
 ghost use Rattle.std.specs.Prelude.{◌≡◌, IfErr, IfOk};
 ghost use Rattle.lift_tree.specs.Annotations.{annotation_of, type_in};
+ghost use Rattle.lift_tree.specs.FixedSizes.{asked};
 ghost use Rattle.lift_tree.specs.Programs.{program_of};
 ghost use Rattle.lift_tree.specs.Types.{ty_of};
 ghost use Rattle.program_source.specs.Program.{IsRefusedFor, OnProgram, StopsFor};
 ghost use Rattle.compilation.specs.Compiled.{IsCompiled};
 ghost use Rattle.compilation.specs.Legal.{LegalOf};
-ghost use Rattle.compilation.specs.Meets.{IsTextFor, asks_with};
+ghost use Rattle.compilation.specs.Meets.{IsTextFor};
 
 use crate::kernel::compiled_kernel;
 use crate::laws::compilation_ends_once;
 use fault_lines::Refusal;
 use kernel_printer::print;
-use lift_tree::local_size::LocalSize;
+use lift_tree::asks::Asks;
 use lift_tree::program::Program;
 use lift_tree::ty::Ty;
 use lift_tree::typed::NodeTypes;
-use lowered_tree::around::is_task;
+use lowered_tree::around::asks_of;
+use nest_premises::laws::rows_are_on_top;
 use program_source::last_term;
 use program_source::laws::sources_end_once;
 use std::alloc::Global;
@@ -28,14 +30,12 @@ pub struct Compiled {
     pub program: Program,
     /// The type of its output.
     pub output: Ty,
-    /// Whether one work-item runs the kernel, with no parallel map.
-    pub is_task: bool,
-    /// The local size of all launches, where the script fixes it.
-    pub local: Option<u32>,
+    /// What each launch has to meet.
+    pub asks: Asks,
     /// The text of the kernel.
     pub text: Vec<u8>,
     // The text is of a kernel that leaves the program's value at each admissible launch.
-    ghost text_for: { ∥ IsTextFor (program_of program) (ty_of output) (asks_with is_task local)
+    ghost text_for: { ∥ IsTextFor (program_of program) (ty_of output) (asked asks)
         text.items ∥₁ },
 }
 
@@ -58,21 +58,20 @@ pub(crate) fn own_type(types: NodeTypes) -> Ty
 /// of memory may come at any point.
 pub fn compile_text(alloc: Global, program: &[u8], script: &[u8]) -> Result<Compiled, Refusal>
     ensures found { IfOk result (λ c. IsCompiled program.now script.now (program_of c.program)
-        (ty_of c.output) (asks_with c.is_task c.local) c.text.items) }
+        (ty_of c.output) (asked c.asks) c.text.items) }
     ensures refused { IfErr result
         (StopsFor (OnProgram program.now (λ p. LegalOf p script.now))) }
     ensures exact { IsRefusedFor (OnProgram program.now (λ p. LegalOf p script.now)) result }
 {
     compilation_ends_once();
+    rows_are_on_top();
     sources_end_once();
     let found = last_term(alloc, program, script)?;
     let kernel = compiled_kernel(alloc, &found.typed, found.local)?;
     let text = print(alloc, &kernel)?;
-    let local = LocalSize::fixed(found.local);
     let last = found.typed;
     Ok(Compiled {
-        is_task: is_task(&last.term),
-        local,
+        asks: asks_of(&last.term, found.local),
         program: last.program,
         output: own_type(last.types),
         text,

@@ -29,11 +29,14 @@ use kernel_printer::print_sequence;
 use kernel_sequence::cut;
 use kernel_sequence::laws::{kernels_are_counted, kernels_are_sound};
 use kernel_tree::tree::Kernel;
+use lift_tree::asks::Asks;
 use lift_tree::local_size::LocalSize;
 use lift_tree::program::Program;
 use lift_tree::ty::Ty;
 use lift_tree::typed::Typed;
+use lowered_tree::around::asks_of;
 use lowered_tree::lowered::Lowered;
+use nest_premises::laws::rows_are_on_top;
 use program_source::last_term;
 use program_source::laws::sources_end_once;
 use sequence_runs::laws::{last_kernels_make_the_output, sequences_keep};
@@ -42,8 +45,8 @@ use std::alloc::{AllocError, Global};
 /// What is to be known of a kernel of a sequence before it is run.
 #[derive(Drop)]
 pub struct KernelOutline {
-    /// Whether one work-item runs it, with no parallel map.
-    pub is_task: bool,
+    /// What each launch of it has to meet.
+    pub asks: Asks,
     /// The type of what it makes.
     pub output: Ty,
 }
@@ -55,14 +58,12 @@ pub struct CompiledSequence {
     pub program: Program,
     /// The type of its output, which the last kernel makes.
     pub output: Ty,
-    /// The local size of all launches, where the script fixes it.
-    pub local: Option<u32>,
     /// Of each kernel in order, what is to be known before it is run.
     pub outlines: Vec<KernelOutline>,
     /// The text of all kernels.
     pub text: Vec<u8>,
     // The text is of kernels that keep the program's value where they are run in order.
-    ghost text_for: { ∥ IsSequenceFor (program_of program) (ty_of output) local
+    ghost text_for: { ∥ IsSequenceFor (program_of program) (ty_of output)
         (map outline_of outlines.items) text.items ∥₁ },
 }
 
@@ -80,8 +81,7 @@ pub fn compile_sequence(
     script: &[u8],
 ) -> Result<CompiledSequence, Refusal>
     ensures found { IfOk result (λ c. IsCompiledSequence program.now script.now
-        (program_of c.program) (ty_of c.output) c.local (map outline_of c.outlines.items)
-        c.text.items) }
+        (program_of c.program) (ty_of c.output) (map outline_of c.outlines.items) c.text.items) }
     ensures refused { IfErr result
         (StopsFor (OnProgram program.now (λ p. SequenceOf p script.now))) }
     ensures exact { IsRefusedFor (OnProgram program.now (λ p. SequenceOf p script.now)) result }
@@ -98,7 +98,6 @@ pub fn compile_sequence(
     Ok(CompiledSequence {
         program: last.program,
         output: own_type(last.types),
-        local: LocalSize::fixed(found.local),
         outlines: made.outlines,
         text,
     })
@@ -145,13 +144,18 @@ fn kernels_of_last(
     kernels_of_each(alloc, terms, local)
 }
 
-// What is to be known of the kernel of a term.
-fn outline(alloc: Global, term: &Lowered) -> Result<KernelOutline, AllocError>
-    ensures { IfOk result (λ o. outline_of o ≡ outline_in (term_part term.now)) }
+// What is to be known of the kernel of a term, with the local size that is fixed.
+fn outline(
+    alloc: Global,
+    term: &Lowered,
+    local: Option<LocalSize>,
+) -> Result<KernelOutline, AllocError>
+    ensures { IfOk result
+        (λ o. outline_of o ≡ outline_in (size_fixed local) (term_part term.now)) }
 {
     let output = term.types.own_type().copy(alloc)?;
     Ok(KernelOutline {
-        is_task: term.is_task(),
+        asks: asks_of(&term.term, local),
         output,
     })
 }
@@ -168,11 +172,12 @@ fn kernels_of_each(
     ensures refused { IfErr result
         (StopsFor (CompilesInTurn (size_fixed local) (map term_part terms.items))) }
 {
+    rows_are_on_top();
     let kernels = Vec::new(alloc);
     let outlines = Vec::new(alloc);
     let mut made = Kernels { kernels, outlines };
     for term in terms {
-        let outline = outline(alloc, &term)?;
+        let outline = outline(alloc, &term, local)?;
         let kernel = kernel_of_lowered(alloc, term, local)?;
         made.push(kernel, outline)?;
     }

@@ -1,5 +1,5 @@
 -- The lines of a cost.
-use Rattle.std.specs.Prelude.{ℕ, zero, suc, ◌+◌, Bool, List, [], ◌++◌, codes, decimal, if◌then◌else◌}
+use Rattle.std.specs.Prelude.{ℕ, zero, suc, ◌+◌, ◌*◌, Bool, List, [], ◌++◌, codes, decimal, if◌then◌else◌}
 use Rattle.term_traffic.specs.Traffic.{ItemTraffic}
 use Rattle.item_traffic.specs.Counts.{held}
 
@@ -46,6 +46,15 @@ both_traffic m n = record {
   local_stores = m.local_stores + n.local_stores;
 }
 
+-- of so many that are alike
+abbrev pub times_traffic : ItemTraffic → ℕ → ItemTraffic
+times_traffic n count = record {
+  global_loads = n.global_loads * count;
+  global_stores = n.global_stores * count;
+  local_loads = n.local_loads * count;
+  local_stores = n.local_stores * count;
+}
+
 -- of the first n together
 abbrev pub sum_traffic : (ℕ → ItemTraffic) → ℕ → ItemTraffic
 sum_traffic f zero = no_traffic
@@ -60,6 +69,11 @@ sum_to f (suc n) = sum_to f n + f n
 abbrev pub item_lines : (ℕ → ItemTraffic) → ℕ → List ℕ
 item_lines f zero = []
 item_lines f (suc n) = item_lines f n ++ item_line n (held_traffic (f n))
+
+-- a line for each of so many items from this one on that are alike
+abbrev pub lines_from : (item count : ℕ) → ItemTraffic → List ℕ
+lines_from item zero n = []
+lines_from item (suc count) n = lines_from item count n ++ item_line (item + count) n
 
 -- or none, where they aren't asked for
 abbrev pub lines_if : (items : Bool) → (ℕ → ItemTraffic) → ℕ → List ℕ

@@ -1,17 +1,17 @@
 //! The cost of a plan at a launch.
 
-ghost use Rattle.std.specs.Prelude.{◌≡◌, IfOk, OnOk, []};
+ghost use Rattle.std.specs.Prelude.{◌≡◌, ◌≤◌, ◌-◌, ◌++◌, IfOk, OnOk, []};
 ghost use Rattle.kernel_tree.specs.Launch.{group_count, item_count};
 ghost use Rattle.item_traffic.specs.Counts.{held};
 ghost use Rattle.plan_traffic.specs.Plans.{IsLaunchFor};
 ghost use Rattle.cost_lines.specs.Costs.{releases_at, traffic_at, numbers_in};
-ghost use Rattle.cost_lines.specs.Lines.{both_traffic, cost_lines, held_traffic, lines_if, sum_traffic, sum_to};
+ghost use Rattle.cost_lines.specs.Lines.{both_traffic, cost_lines, held_traffic, lines_from, lines_if, sum_traffic, sum_to, times_traffic};
 
 use crate::lines::{push_cost, push_item};
 use kernel_tree::launches::Launch;
 use kernel_tree::laws::layout;
 use phase_plan::planned::Plan;
-use plan_traffic::counting::{releases, traffic};
+use plan_traffic::counting::{items_alike, releases, traffic};
 use plan_traffic::traffic::Traffic;
 use std::alloc::{AllocError, Global};
 
@@ -27,8 +27,33 @@ fn both(a: Traffic, b: Traffic) -> Traffic
     }
 }
 
-// The sum over the items, whose lines are written behind the text, where they are asked for.
-#[tactic(auto, using(crate::proofs::Sums::items_in_row))]
+// As much so many times, held.
+fn times(a: Traffic, count: u32) -> Traffic
+    ensures { numbers_in result ≡ held_traffic (times_traffic (numbers_in a) count) }
+{
+    let count = count as u64;
+    Traffic {
+        global_loads: a.global_loads.saturating_mul(count),
+        global_stores: a.global_stores.saturating_mul(count),
+        local_loads: a.local_loads.saturating_mul(count),
+        local_stores: a.local_stores.saturating_mul(count),
+    }
+}
+
+// Writes a line with this for each item of a range behind the text.
+fn push_items(text: &mut Vec<u8>, first: u32, end: u32, traffic: Traffic) -> Result<(), AllocError>
+    requires { first ≤ end }
+    ensures { OnOk result (text.new.items
+        ≡ text.old.items ++ lines_from first (end - first) (numbers_in traffic)) }
+{
+    for item in first..end {
+        push_item(text, item, traffic)?;
+    }
+    Ok(())
+}
+
+// The sum over the items, whose lines are written behind the text, where they are asked for: items
+// that do as much are counted at once.
 fn add_items(
     plan: &Plan<'_>,
     launch: &Launch,
@@ -48,12 +73,16 @@ fn add_items(
         local_loads: 0,
         local_stores: 0,
     };
-    for item in 0..launch.global.0 {
+    let count = launch.global.0 * launch.global.1;
+    let mut item = 0;
+    while item < count {
         let counted = traffic(plan, launch, item);
+        let end = item + items_alike(plan, launch, item);
         if items {
-            push_item(text, item, counted)?;
+            push_items(text, item, end, counted)?;
         }
-        all = both(all, counted);
+        all = both(all, times(counted, end - item));
+        item = end;
     }
     Ok(all)
 }
@@ -66,7 +95,9 @@ fn all_releases(plan: &Plan<'_>, launch: &Launch) -> u64
 {
     layout();
     let mut all = 0u64;
-    for group in 0..launch.global.0 / launch.local.0 {
+    let across = launch.global.0 / launch.local.0;
+    let down = launch.global.1 / launch.local.1;
+    for group in 0..across * down {
         all = all.saturating_add(releases(plan, launch, group));
     }
     all

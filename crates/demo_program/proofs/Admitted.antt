@@ -22,15 +22,15 @@ words_have_their_type seed (suc n) a is = absurd (cc (is))
 pub may_run : (seed : ℕ) → MayRun (demo_given seed)
 may_run seed = record {
   world = record { bases = bases_are; sizes = refl; inputs = words_have_their_type seed };
-  flat = record { one_row = refl; one_local_row = refl };
   launch = record {
     sizes = bases_are;
-    local_least = omega arith;
+    local_least = (omega arith, omega arith);
     local_most = omega arith;
-    global_least = omega arith;
+    global_least = (omega arith, omega arith);
     global_most = omega arith;
-    divides = refl;
+    divides = (refl, refl);
     fixed = tt;
     alone = λ task. absurd (cc (task));
+    flat = λ row. refl;
   };
 }

@@ -1,9 +1,11 @@
 -- The demo's steps are made, and the last term is legal and within its limits, by computing.
-use Rattle.std.proofs.Common.{◌≡◌, ◌++◌, ◌≤◌, List, [], ◌∷◌, false, None, Ok, Err, Result, refl, length, take, arith}
+use Rattle.std.proofs.Common.{◌≡◌, ◌++◌, ◌≤◌, List, [], ◌∷◌, None, Ok, Err, Result, refl, length, take, arith}
 use Rattle.scalar_ops.specs.declared.op.Reducer.TheVariants as reducer
 use Rattle.lift_tree.specs.declared.layout.Layout.TheVariants as layouts
 use Rattle.lift_tree.specs.declared.term.BinaryForm.TheVariants as binary
 use Rattle.lift_tree.specs.declared.term.FoldKind.TheVariants as fold_kind
+use Rattle.lift_tree.specs.declared.term.Dimension.TheVariants as dimensions
+use Rattle.lift_tree.specs.declared.term.Level.TheVariants as levels
 use Rattle.lift_tree.specs.declared.term.MapKind.TheVariants as map_kind
 use Rattle.lift_tree.specs.declared.term.Operator.TheVariants as operator
 use Rattle.lift_tree.specs.declared.term.UnaryForm.TheVariants as unary
@@ -19,11 +21,11 @@ use Rattle.strategy_script.specs.ScriptText.{IsScript, steps_in}
 use Rattle.strategy_script.specs.Steps.{State, terms_of}
 use Rattle.strategy_script.specs.declared.faults.StepNo.{StepNo}
 use Rattle.strategy_script.specs.declared.script.Step.{Step}
-use Rattle.lowered_tree.specs.Kinds.{is_task}
+use Rattle.lowered_tree.specs.Kinds.{asks_of}
 use Rattle.lowered_tree.specs.Nest.{nest_fault}
 use Rattle.buffer_allocation.specs.Limits.{passed_limit}
 use Rattle.demo_program.specs.Texts.{script_text}
-use Rattle.demo_program.specs.Accepted.{DemoIsAccepted, demo_program, sums}
+use Rattle.demo_program.specs.Accepted.{DemoIsAccepted, demo_asks, demo_program, sums}
 use Rattle.demo_program.proofs.Reading.{program_read}
 
 -- ---- types
@@ -66,7 +68,7 @@ few = omega arith
 -- join(join(mapWrg(\t. mapLcl(\w. foldSeq(\a x. add(a, x), 0, w), slide(3, 1, toLocal(mapLcl(\x. x,
 -- t)))), slide(66, 64, pad(1, 1, xs)))))
 copied_tile : Tree
-copied_tile = trees.Unary unary.ToLocal (trees.Map map_kind.Local (trees.Variable 0) (trees.Variable 0))
+copied_tile = trees.Unary unary.ToLocal (trees.Map (map_kind.Over levels.Items dimensions.X) (trees.Variable 0) (trees.Variable 0))
 
 sum : Tree
 sum = trees.Fold fold_kind.Sequential (trees.Variable 0) (trees.Number 0) (trees.Binary (binary.Operator (operator.Regrouping reducer.Add)) (trees.Variable 1) (trees.Variable 0))
@@ -76,7 +78,7 @@ tiles = trees.Unary (unary.Slide 66 64) (trees.Unary (unary.Pad 1 1) (trees.Inpu
 
 tiled_sums : Tree
 unfolding copied_tile sum tiles
-tiled_sums = trees.Unary (unary.Layout layouts.Join) (trees.Unary (unary.Layout layouts.Join) (trees.Map map_kind.WorkGroup tiles (trees.Map map_kind.Local (trees.Unary (unary.Slide 3 1) copied_tile) sum)))
+tiled_sums = trees.Unary (unary.Layout layouts.Join) (trees.Unary (unary.Layout layouts.Join) (trees.Map (map_kind.Over levels.Groups dimensions.X) tiles (trees.Map (map_kind.Over levels.Items dimensions.X) (trees.Unary (unary.Slide 3 1) copied_tile) sum)))
 
 last : State
 unfolding tiled_sums
@@ -103,9 +105,9 @@ fits : passed_limit last.tree last.types ≡ None
 unfolding judged_as types_of last tiled_sums copied_tile sum tiles
 fits = refl
 
-parallel : is_task last.tree ≡ false
+asked : asks_of None last.tree ≡ demo_asks
 unfolding last tiled_sums copied_tile sum tiles
-parallel = refl
+asked = refl
 
 pub accepted : DemoIsAccepted
 unfolding source
@@ -122,5 +124,5 @@ accepted = record {
   made = made;
   legal = legal;
   fits = fits;
-  parallel = parallel;
+  asked = asked;
 }

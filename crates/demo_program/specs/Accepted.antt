@@ -1,5 +1,5 @@
 -- What each stage makes of the demo's texts: none refuses them.
-use Rattle.std.specs.Prelude.{◌≡◌, ◌≤◌, ◌++◌, List, [], ◌∷◌, codes, false, length, None, Ok}
+use Rattle.std.specs.Prelude.{◌≡◌, ◌≤◌, ◌++◌, List, [], ◌∷◌, codes, false, true, length, None, Ok}
 use Rattle.lift_tree.specs.declared.layout.Layout.TheVariants as layouts
 use Rattle.lift_tree.specs.declared.length.Factor.TheVariants as factor
 use Rattle.lift_tree.specs.declared.length.Sign.TheVariants as sign
@@ -9,6 +9,7 @@ use Rattle.lift_tree.specs.declared.term.UnaryForm.TheVariants as unary
 use Rattle.scalar_ops.specs.declared.op.Reducer.TheVariants as reducer
 use Rattle.lift_tree.specs.Annotations.{Annotation}
 use Rattle.lift_tree.specs.InputTypes as written
+use Rattle.lift_tree.specs.Launches.{Asks}
 use Rattle.lift_tree.specs.Programs.{PlainProgram}
 use Rattle.lift_tree.specs.Tree as trees
 use Rattle.lift_tree.specs.Tree.{Tree}
@@ -17,7 +18,7 @@ use Rattle.pattern_types.specs.Judged.{program_judged}
 use Rattle.strategy_script.specs.ScriptText.{IsScript}
 use Rattle.strategy_script.specs.Steps.{State, terms_of}
 use Rattle.strategy_script.specs.declared.script.Step.{Step}
-use Rattle.lowered_tree.specs.Kinds.{is_task}
+use Rattle.lowered_tree.specs.Kinds.{asks_of}
 use Rattle.lowered_tree.specs.Nest.{nest_fault}
 use Rattle.buffer_allocation.specs.Limits.{passed_limit}
 use Rattle.demo_program.specs.Texts.{program_text, script_text}
@@ -44,8 +45,12 @@ demo_program = record {
   body = sums;
 }
 
+-- what its last term asks of each launch: one row
+abbrev pub demo_asks : Asks
+demo_asks = record { alone = false; flat = true; local = None }
+
 -- the texts are read, typed and rewritten within their limits, no local size is fixed, and the last
--- term is a legal nest within its limits, with a parallel map
+-- term is a legal nest within its limits, which asks for one row
 pub record DemoIsAccepted : Type 0 where
   pub read : IsProgramText program_text demo_program
   pub within : first_limit demo_program ≡ None
@@ -60,4 +65,4 @@ pub record DemoIsAccepted : Type 0 where
       ≡ Ok (front ++ last ∷ [])
   pub legal : nest_fault None last.tree last.types ≡ None
   pub fits : passed_limit last.tree last.types ≡ None
-  pub parallel : is_task last.tree ≡ false
+  pub asked : asks_of None last.tree ≡ demo_asks

@@ -56,7 +56,7 @@ fn items_code(alloc: Global, lowered: &Lowered, term: &Term) -> Result<Vec<Stmt>
 fn groups_code(
     alloc: Global,
     lowered: &Lowered,
-    local: Option<u32>,
+    local: Option<(u32, u32)>,
     barriers: &[Barrier],
     term: &Term,
 ) -> Result<Vec<Stmt>, AllocError>
@@ -90,7 +90,7 @@ fn declares(
     alloc: Global,
     kernel: &Kernel,
     lowered: &Lowered,
-    local: Option<u32>,
+    local: Option<(u32, u32)>,
     term: &Term,
 ) -> Result<bool, AllocError> {
     let counts = counted(lowered, term)?;
@@ -102,7 +102,7 @@ fn declares(
             && counts.sizes == kernel.sizes
             && counts.variables == kernel.variables
             && kernel.vectors == 0
-            && kernel.local == local.map(|size| (size, 1))
+            && kernel.local == local
             && are_equal(&locals, &kernel.locals)
             && are_equal(&privates, &kernel.privates),
     )

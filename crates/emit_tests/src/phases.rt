@@ -8,7 +8,7 @@ ghost use Rattle.group_form.specs.Forms.{StandsInGroup, StandsOverGroups};
 
 use barrier_placement::{Barrier, Touch};
 use lift_tree::layout as forms;
-use lift_tree::term::UnaryForm;
+use lift_tree::term::{Dimension, Level, UnaryForm};
 use lift_tree::ty::Ty;
 use lowering::term::{Fold, Kind, Layout, LoadSet, Map, Space, Term};
 use phase_plan::phases::Phases;
@@ -71,7 +71,7 @@ fn local_map(
     ensures { IfOk result (λ t. StandsInGroup true (term_of t.value)) }
 {
     let map = Map {
-        kind: Kind::Local,
+        kind: Kind::Over(Level::Items, Dimension::X),
         length: Poly::zero(alloc),
         loads,
         array: Box::into_inner(array),
@@ -146,7 +146,7 @@ fn over_groups(alloc: Global, body: Box<Term>) -> Result<Term, AllocError>
     ensures { IfOk result (λ t. StandsOverGroups (term_of t)) }
 {
     let map = Map {
-        kind: Kind::WorkGroup,
+        kind: Kind::Over(Level::Groups, Dimension::X),
         length: Poly::zero(alloc),
         loads: LoadSet::Skip,
         array: Term::Source(0),

@@ -29,7 +29,9 @@ fn emitted(alloc: Global, row: &Row) -> Result<Option<(Kernel, usize, usize)>, F
     let plan = plan(alloc, &spaced, &buffers)?;
     let (phases, barriers) = match &plan.kind {
         Kind::Task | Kind::OverLaunch => (0, 0),
-        Kind::OverGroups(phases) => (phases.count as usize, phases.barriers.len()),
+        Kind::OverGroups(phases) | Kind::OverGrid(phases) => {
+            (phases.count as usize, phases.barriers.len())
+        }
     };
     Ok(Some((emit(alloc, &plan)?, phases, barriers)))
 }
@@ -121,11 +123,63 @@ const COLUMNS: Row = Row {
 ",
 };
 
+// Tiles that are written by columns: rows of groups, two phases, each a map over rows around one
+// along them, and a barrier between them and one that closes.
+const OVER_GRID: Row = Row {
+    program: "size R from 1 to 64; size C from 1 to 64; input a: [[u32; 2*C]; 2*R]; output split(2*R, join(join(transpose(map(\\band. join(map(\\tile. map(\\column. map(\\x. x, column), transpose(map(\\row. map(\\x. x, row), transpose(tile)))), split(2, transpose(band)))), split(2, a))))))",
+    script: "launch local 2 2\nat 0.0.0.0.1.0.1.0.0.1 to-lcl\nat 0.0.0.0.1.0.1.0.0 to-lcl1\nat 0.0.0.0.1.0.1.0.0 local\nat 0.0.0.0.1.0.1.1 to-lcl\nat 0.0.0.0.1.0.1 to-lcl1\nat 0.0.0.0.1.0 to-wrg\nat 0.0.0.0 to-wrg1",
+    kernel: "__kernel __attribute__((reqd_work_group_size(2, 2, 1))) void lift(__global const uint *a0, __global uint *o0, const uint s0, const uint s1)
+{
+  __local uint l0[4];
+  uint v0;
+  uint v1;
+  for (uint i0 = (uint)get_group_id(1); i0 < s0; i0 += (uint)get_num_groups(1)) {
+    for (uint i1 = (uint)get_group_id(0); i1 < s1; i1 += (uint)get_num_groups(0)) {
+      v0 = a0[((((i0 * 2u) + (uint)get_local_id(1)) * (2u * s1)) + ((i1 * 2u) + (uint)get_local_id(0)))];
+      l0[(((uint)get_local_id(1) * 2u) + (uint)get_local_id(0))] = v0;
+      barrier(CLK_LOCAL_MEM_FENCE);
+      v1 = l0[(((uint)get_local_id(0) * 2u) + (uint)get_local_id(1))];
+      o0[((((((i1 * 2u) + (uint)get_local_id(1)) * s0) + i0) * 2u) + (uint)get_local_id(0))] = v1;
+      barrier(CLK_LOCAL_MEM_FENCE);
+    }
+  }
+}
+",
+};
+
+// Without a fixed size each of the four maps is a loop of its own dimension.
+const LOOPS: Row = Row {
+    program: "input xs: [[[[u32; 2]; 3]; 4]; 5]; output map(\\r. map(\\t. map(\\s. map(\\x. add(x, 1), s), t), r), xs)",
+    script: "at 1.1.1 to-lcl\nat 1.1 to-lcl1\nat 1 to-wrg\nat . to-wrg1",
+    kernel: "__kernel void lift(__global const uint *a0, __global uint *o0)
+{
+  uint v0;
+  for (uint i0 = (uint)get_group_id(1); i0 < 5u; i0 += (uint)get_num_groups(1)) {
+    for (uint i1 = (uint)get_group_id(0); i1 < 4u; i1 += (uint)get_num_groups(0)) {
+      for (uint i2 = (uint)get_local_id(1); i2 < 3u; i2 += (uint)get_local_size(1)) {
+        for (uint i3 = (uint)get_local_id(0); i3 < 2u; i3 += (uint)get_local_size(0)) {
+          v0 = a0[((((((i0 * 4u) + i1) * 3u) + i2) * 2u) + i3)];
+          o0[((((((i0 * 4u) + i1) * 3u) + i2) * 2u) + i3)] = (v0 + 1u);
+        }
+      }
+    }
+  }
+}
+",
+};
+
 #[test]
 fn each_kind_has_its_kernel(rt: HostRuntime) -> Result<(), Fail> {
     assert!(rt; gives(rt.alloc(), &TASK, 0, 0)?);
     assert!(rt; gives(rt.alloc(), &OVER_LAUNCH, 0, 0)?);
     assert!(rt; gives(rt.alloc(), &OVER_GROUPS, 1, 0)?);
+    assert!(rt; gives(rt.alloc(), &OVER_GRID, 2, 2)?);
+    Ok(())
+}
+
+#[test]
+fn each_map_of_a_grid_has_its_loop(rt: HostRuntime) -> Result<(), Fail> {
+    assert!(rt; gives(rt.alloc(), &LOOPS, 1, 0)?);
     Ok(())
 }
 

@@ -69,8 +69,10 @@ fn variables_are_turns(rt: HostRuntime) -> Result<(), Fail> {
     let alloc = rt.alloc();
     assert!(rt; matches!(spelled(alloc, 0)?, Expr::Id(Dimension::X, IdForm::GroupId)));
     assert!(rt; matches!(spelled(alloc, 1)?, Expr::Id(Dimension::X, IdForm::LocalId)));
-    assert!(rt; is_loop_variable(&spelled(alloc, 2)?, 0));
-    let first = Box::new(alloc, variable(3))?;
+    assert!(rt; matches!(spelled(alloc, 2)?, Expr::Id(Dimension::Y, IdForm::GroupId)));
+    assert!(rt; matches!(spelled(alloc, 3)?, Expr::Id(Dimension::Y, IdForm::LocalId)));
+    assert!(rt; is_loop_variable(&spelled(alloc, 4)?, 0));
+    let first = Box::new(alloc, variable(5))?;
     let index = Index::Binary(Operation::Least, first, Box::new(alloc, Index::Literal(7))?);
     match spell_index(alloc, &index)? {
         Expr::Binary(Op::Min, a, b) => assert!(rt; is_loop_variable(&a, 1) && is_number(&b, 7)),

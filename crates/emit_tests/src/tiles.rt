@@ -15,7 +15,7 @@ use item_emit::scope::Scope;
 use kernel_tree::tree::{Array, Dimension, Expr, Start, Stmt, Stride};
 use lift_tree::layout as forms;
 use lift_tree::length::Product;
-use lift_tree::term::UnaryForm;
+use lift_tree::term::{self, Level, UnaryForm};
 use lift_tree::ty::Ty;
 use lowering::term::{Kind, Layout, LoadSet, Map, Space, Term};
 use scalar_ops::op::Op;
@@ -48,7 +48,7 @@ fn over_two(alloc: Global, array: Term, body: Term) -> Result<Term, AllocError>
     ensures { IfOk result (λ t. HasShortCopies (term_of t)) }
 {
     let map = Map {
-        kind: Kind::Local,
+        kind: Kind::Over(Level::Items, term::Dimension::X),
         length: number(alloc, 2)?,
         loads: LoadSet::Take,
         array,
@@ -92,7 +92,7 @@ fn over_groups(alloc: Global) -> Result<Term, AllocError>
     ensures { IfOk result (λ t. HasShortCopies (term_of t)) }
 {
     let map = Map {
-        kind: Kind::WorkGroup,
+        kind: Kind::Over(Level::Groups, term::Dimension::X),
         length: number(alloc, 3)?,
         loads: LoadSet::Skip,
         array: split_input(alloc)?,

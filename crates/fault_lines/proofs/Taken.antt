@@ -1,8 +1,11 @@
 -- What sinks took, piece by piece.
-use Rattle.std.proofs.Common.{◌≡◌, ◌∙◌, [], ◌∷◌, ◌+◌, ◌-◌, ◌≤◌, ◌++◌, ℕ, List, sym, ap, subst, take, drop, get_or, length, length-append, append_assoc, arith, Result, Ok, Err, OnOk, Option, Some, None}
+use Rattle.std.proofs.Common.{◌≡◌, ◌∙◌, refl, Bool, true, false, [], ◌∷◌, ◌+◌, ◌-◌, ◌≤◌, ◌++◌, ℕ, List, sym, ap, subst, take, drop, get_or, length, length-append, append_assoc, arith, Result, Ok, Err, OnOk, Option, Some, None}
+use Rattle.std.specs.Prelude.{◌==◌, IsTrue, codes, decimal, if◌then◌else◌}
 use Rattle.std.specs.Io.KnownBytes.{Appends}
+use Rattle.std.proofs.lemmas.Bool.Decides.{nat_tests}
 use Rattle.std.proofs.lemmas.List.{take-append-le, take_rest}
 use Rattle.std.proofs.Math.Seq.{take-append-add}
+use Rattle.launch_file.specs.Line.{pair_text}
 use Rattle.lift_io.specs.Causes.{HasCause, Rose}
 use Rattle.fault_lines.specs.Lines.{TakesPrefix, TakesLine}
 
@@ -21,6 +24,22 @@ prefix_of_first a b xs ys p =
 pub prefix_of_both : (a b c : Option (List ℕ)) (xs ys : List ℕ) → Appends a b xs → TakesPrefix b c ys → TakesPrefix a c (xs ++ ys)
 prefix_of_both a b c xs ys p q =
     (length xs + q.0, omega (arith, q.1, length-append xs ys), subst (λ (w : List ℕ). Appends a c w) (sym (take-append-add xs ys q.0)) (appends_both a b c xs (take q.0 ys) p q.2))
+
+pub on_ok : {T E : Type 0} (r : Result T E) (P Q : Type 0) → (P → Q) → OnOk r P → OnOk r Q
+on_ok (Ok v) P Q f h = f h
+on_ok (Err e) P Q f h = tt
+
+untaken : (b : Bool) (xs ys : List ℕ) → (IsTrue b → ⊥) → (if b then xs else ys) ≡ ys
+untaken true xs ys h = absurd (h refl)
+untaken false xs ys h = refl
+
+-- two numbers, where the second isn't 1
+pub both_numbers : (m n : ℕ) → (n ≡ 1 → ⊥) → pair_text m n ≡ codes "[" ++ (decimal m ++ (codes "," ++ (decimal n ++ codes "]")))
+both_numbers m n other =
+    untaken (n == 1) _ _ (λ h. other (grind (arith, nat_tests)))
+    ∙ append_assoc (codes "[" ++ decimal m ++ codes ",") (decimal n) (codes "]")
+    ∙ append_assoc (codes "[" ++ decimal m) (codes ",") (decimal n ++ codes "]")
+    ∙ append_assoc (codes "[") (decimal m) (codes "," ++ (decimal n ++ codes "]"))
 
 -- what a write of a whole line leaves
 pub takes_line : {T E : Type 0} (a b : Option (List ℕ)) (f g : ℕ) (xs : List ℕ) (r : Result T E)

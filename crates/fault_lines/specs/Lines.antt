@@ -1,8 +1,9 @@
 -- Lines, the pieces in which they are written, and what a sink took of them.
 use Rattle.std.specs.Prelude.{◌≤◌, ℕ, List, [], ◌∷◌, ◌++◌, Option, length, map, take, codes, decimal}
 use Rattle.std.specs.Io.KnownBytes.{Appends}
+use Rattle.launch_file.specs.Line.{pair_text}
 use Rattle.fault_lines.specs.declared.lines.Piece.{Piece}
-use Rattle.fault_lines.specs.declared.lines.Piece.TheVariants.{Text, Number, Place}
+use Rattle.fault_lines.specs.declared.lines.Piece.TheVariants.{Text, Number, Pair, Place}
 
 -- numbers, each behind `.`
 abbrev pub dotted : List ℕ → List ℕ
@@ -19,10 +20,11 @@ abbrev pub line_of_texts : List (List ℕ) → List ℕ
 line_of_texts [] = codes "\n"
 line_of_texts (text ∷ texts) = text ++ line_of_texts texts
 
--- a piece of a line: a text, a number or a place
+-- a piece of a line: a text, a number, two of them or a place
 abbrev pub piece_text : Piece → List ℕ
 piece_text (Text text) = text.now
 piece_text (Number n) = decimal n
+piece_text (Pair first second) = pair_text first second
 piece_text (Place numbers) = place_text numbers.now
 
 -- the line that pieces make, with its end

@@ -50,6 +50,7 @@ fn told_by(detail: Detail<'_>) -> Piece<'_>
         Detail::Nothing => Piece::Text(b""),
         Detail::Name(name) => Piece::Text(name),
         Detail::Number(number) => Piece::Number(number as u128),
+        Detail::Pair(first, second) => Piece::Pair(first, second),
     }
 }
 

@@ -1,6 +1,7 @@
 //! Lines, written in pieces without taking memory.
 ghost use Rattle.std.specs.Prelude.{◌∷◌, OnOk, decimal};
 ghost use Rattle.std.specs.Io.KnownBytes.{Appends};
+ghost use Rattle.launch_file.specs.Line.{pair_text};
 ghost use Rattle.lift_io.specs.Causes.{HasCause, Rose};
 ghost use Rattle.fault_lines.specs.Lines.{
   TakesLine,
@@ -21,6 +22,8 @@ pub enum Piece<'a> {
     Text(&'a [u8]),
     /// A number in decimal.
     Number(u128),
+    /// Two numbers: the first alone where the second is 1, else `[a,b]`.
+    Pair(u64, u64),
     /// A place in a term: `.` for the root, or its numbers with `.` between.
     Place(&'a [u32]),
 }
@@ -77,6 +80,22 @@ fn write_place<S: Sink>(sink: &mut S, numbers: &[u32]) -> Result<(), WriteFailed
     }
 }
 
+fn write_pair<S: Sink>(sink: &mut S, first: u64, second: u64) -> Result<(), WriteFailed>
+    ensures all { OnOk result (Appends (S.taken sink.old) (S.taken sink.new)
+        (pair_text first second)) }
+    ensures prefix { TakesPrefix (S.taken sink.old) (S.taken sink.new) (pair_text first second) }
+    ensures cause { HasCause (S.faults sink.old) (S.faults sink.new) result }
+{
+    if second == 1 {
+        return write_number(sink, first as u128);
+    }
+    write_whole(sink, b"[")?;
+    write_number(sink, first as u128)?;
+    write_whole(sink, b",")?;
+    write_number(sink, second as u128)?;
+    write_whole(sink, b"]")
+}
+
 fn write_piece<S: Sink>(sink: &mut S, piece: &Piece<'_>) -> Result<(), WriteFailed>
     ensures all { OnOk result (Appends (S.taken sink.old) (S.taken sink.new)
         (piece_text piece.now)) }
@@ -86,6 +105,7 @@ fn write_piece<S: Sink>(sink: &mut S, piece: &Piece<'_>) -> Result<(), WriteFail
     match piece {
         Piece::Text(text) => write_whole(sink, text),
         Piece::Number(number) => write_number(sink, *number),
+        Piece::Pair(first, second) => write_pair(sink, *first, *second),
         Piece::Place(numbers) => write_place(sink, numbers),
     }
 }

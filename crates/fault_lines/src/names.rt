@@ -72,6 +72,7 @@ pub fn nest_rule_name(rule: NestRule) -> &'static [u8]
         NestRule::N11 => b"N11".as_slice(),
         NestRule::N12 => b"N12".as_slice(),
         NestRule::N13 => b"N13".as_slice(),
+        NestRule::N14 => b"N14".as_slice(),
     }
 }
 

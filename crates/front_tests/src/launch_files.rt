@@ -9,6 +9,8 @@ use launch_file::file::{Ask, LaunchFile, read_launch};
 use launch_file::line::{Detail, Line};
 use launch_file::result::result_text;
 use lift_reader::program::read_program;
+use lift_tree::asks::Asks;
+use lift_tree::local_size::LocalSize;
 use lift_tree::program::Program;
 use lift_tree::typed::Typed;
 use lift_tree::value::Val;
@@ -16,38 +18,89 @@ use pattern_types::type_of;
 use std::alloc::{AllocError, Global};
 use std::test::Fail;
 
-const TASK: Ask = Ask::Run {
-    task: true,
+/// What is asked of a launch: one work-item alone, one row of them, and a local size.
+#[derive(Clone, Copy)]
+pub struct Asked {
+    pub alone: bool,
+    pub flat: bool,
+    pub local: Option<(u32, u32)>,
+}
+
+/// What a launch file is read for.
+#[derive(Clone, Copy)]
+pub enum Reading {
+    Run(Asked),
+    Eval,
+    Cost(Asked),
+}
+
+const ONE: Asked = Asked {
+    alone: true,
+    flat: false,
     local: None,
 };
 
-const GROUPS: Ask = Ask::Run {
-    task: false,
+const TASK: Reading = Reading::Run(ONE);
+
+const GROUPS: Reading = Reading::Run(Asked {
+    alone: false,
+    flat: true,
     local: None,
+});
+
+const BY_TWO: Asked = Asked {
+    alone: false,
+    flat: true,
+    local: Some((2, 1)),
 };
 
 // A script fixes groups of two.
-const PAIRS: Ask = Ask::Run {
-    task: false,
-    local: Some(2),
-};
+const PAIRS: Reading = Reading::Run(BY_TWO);
 
 // A script fixes groups of one, for one work-item.
-const ALONE: Ask = Ask::Run {
-    task: true,
-    local: Some(1),
-};
+const ALONE: Reading = Reading::Run(Asked {
+    alone: true,
+    flat: false,
+    local: Some((1, 1)),
+});
+
+// Rows of groups, of any size, or of three rows of two.
+const ROWS: Reading = Reading::Run(Asked {
+    alone: false,
+    flat: false,
+    local: None,
+});
+
+const THREE_ROWS: Reading = Reading::Run(Asked {
+    alone: false,
+    flat: false,
+    local: Some((2, 3)),
+});
 
 // The cost of one work-item's kernel, and that of a kernel by groups of two.
-const COST_OF_TASK: Ask = Ask::Cost {
-    task: true,
-    local: None,
-};
+const COST_OF_TASK: Reading = Reading::Cost(ONE);
 
-const COST_OF_PAIRS: Ask = Ask::Cost {
-    task: false,
-    local: Some(2),
-};
+const COST_OF_PAIRS: Reading = Reading::Cost(BY_TWO);
+
+fn asks(asked: Asked) -> Asks {
+    Asks {
+        alone: asked.alone,
+        flat: asked.flat,
+        local: match asked.local {
+            Some((across, down)) => LocalSize::new(across, down),
+            None => None,
+        },
+    }
+}
+
+/// What a file that is read for this has to meet.
+pub fn ask_for(reading: Reading) -> Ask {
+    match reading {
+        Reading::Run(asked) => Ask::Run(asks(asked)),
+        Reading::Eval => Ask::Eval,
+        Reading::Cost(asked) => Ask::Cost(asks(asked)),
+    }
+}
 
 const NUMBERS: &str = "size N from 1 to 1000; input xs: [u32; N]; output xs";
 
@@ -70,8 +123,11 @@ fn push_detail(alloc: Global, text: &mut Vec<u8>, detail: Detail<'_>) -> Result<
     match detail {
         Detail::Nothing => Ok(()),
         Detail::Name(name) => text.extend_from_slice(name),
-        Detail::Number(number) => {
+        Detail::Number(number) | Detail::Pair(number, 1) => {
             text.extend_from_slice(format!(in alloc; "{number}")?.as_str().as_bytes())
+        }
+        Detail::Pair(across, down) => {
+            text.extend_from_slice(format!(in alloc; "[{across},{down}]")?.as_str().as_bytes())
         }
     }
 }
@@ -119,17 +175,17 @@ fn answer(alloc: Global, program: &Program, ask: Ask, text: &str) -> Result<Vec<
     }
 }
 
-fn gives(alloc: Global, program: &str, ask: Ask, text: &str, wanted: &str) -> bool {
+fn gives(alloc: Global, program: &str, reading: Reading, text: &str, wanted: &str) -> bool {
     let Some(typed) = typed(alloc, program) else {
         return false;
     };
-    match answer(alloc, &typed.program, ask, text) {
+    match answer(alloc, &typed.program, ask_for(reading), text) {
         Ok(given) => given.as_slice() == wanted.as_bytes(),
         Err(_) => false,
     }
 }
 
-const ANSWERS: &[(Ask, &str, &str)] = &[
+const ANSWERS: &[(Reading, &str, &str)] = &[
     (
         TASK,
         "{\"global\":1,\"local\":1,\"sizes\":{\"N\":3},\"inputs\":{\"xs\":[1,2,4294967295]}}",
@@ -211,7 +267,7 @@ const ANSWERS: &[(Ask, &str, &str)] = &[
         "lift: launch: missing local",
     ),
     (
-        Ask::Eval,
+        Reading::Eval,
         "{\"global\":-1,\"schedule\":7,\"sizes\":{\"N\":1},\"inputs\":{\"xs\":[7],\"ys\":8}}",
         "1x1 1x1 [1] [1] [] {\"value\":[7]}\n",
     ),
@@ -256,18 +312,158 @@ const ANSWERS: &[(Ask, &str, &str)] = &[
         "{\"global\":512,\"local\":256,\"sizes\":{\"N\":1},\"inputs\":{\"xs\":[7]}}",
         "512x1 256x1 [1] [1] [] {\"value\":[7]}\n",
     ),
+    // a pair of each; the number n is the pair of n and 1
+    (
+        ROWS,
+        "{\"global\":[4,6],\"local\":[2,3],\"sizes\":{\"N\":1},\"inputs\":{\"xs\":[7]}}",
+        "4x6 2x3 [1] [1] [] {\"value\":[7]}\n",
+    ),
+    (
+        ROWS,
+        "{\"global\":4,\"local\":2,\"sizes\":{\"N\":1},\"inputs\":{\"xs\":[7]}}",
+        "4x1 2x1 [1] [1] [] {\"value\":[7]}\n",
+    ),
+    (
+        ROWS,
+        "{\"global\":[4,1],\"local\":2,\"sizes\":{\"N\":1},\"inputs\":{\"xs\":[7]}}",
+        "4x1 2x1 [1] [1] [] {\"value\":[7]}\n",
+    ),
+    (
+        ROWS,
+        "{\"global\":[256,256],\"local\":[16,16],\"sizes\":{\"N\":1},\"inputs\":{\"xs\":[7]}}",
+        "256x256 16x16 [1] [1] [] {\"value\":[7]}\n",
+    ),
+    (
+        ROWS,
+        "{\"global\":[1,65536],\"local\":[1,256],\"sizes\":{\"N\":1},\"inputs\":{\"xs\":[7]}}",
+        "1x65536 1x256 [1] [1] [] {\"value\":[7]}\n",
+    ),
+    (
+        THREE_ROWS,
+        "{\"global\":[4,6],\"local\":[2,3],\"sizes\":{\"N\":1},\"inputs\":{\"xs\":[7]}}",
+        "4x6 2x3 [1] [1] [] {\"value\":[7]}\n",
+    ),
+    (
+        GROUPS,
+        "{\"global\":[4,1],\"local\":[2,1],\"sizes\":{\"N\":1},\"inputs\":{\"xs\":[7]}}",
+        "4x1 2x1 [1] [1] [] {\"value\":[7]}\n",
+    ),
+    (
+        TASK,
+        "{\"global\":[1,1],\"local\":[1,1],\"sizes\":{\"N\":1},\"inputs\":{\"xs\":[7]}}",
+        "1x1 1x1 [1] [1] [] {\"value\":[7]}\n",
+    ),
+    // along a dimension there are none, too many in all, or no whole groups
+    (
+        ROWS,
+        "{\"global\":[4,0],\"local\":1,\"sizes\":{\"N\":1},\"inputs\":{\"xs\":[7]}}",
+        "lift: launch: global [4,0], local 1",
+    ),
+    (
+        ROWS,
+        "{\"global\":[4,6],\"local\":[0,3],\"sizes\":{\"N\":1},\"inputs\":{\"xs\":[7]}}",
+        "lift: launch: global [4,6], local [0,3]",
+    ),
+    (
+        ROWS,
+        "{\"global\":[32,34],\"local\":[16,17],\"sizes\":{\"N\":1},\"inputs\":{\"xs\":[7]}}",
+        "lift: launch: global [32,34], local [16,17]",
+    ),
+    (
+        ROWS,
+        "{\"global\":[256,257],\"local\":1,\"sizes\":{\"N\":1},\"inputs\":{\"xs\":[7]}}",
+        "lift: launch: global [256,257], local 1",
+    ),
+    (
+        ROWS,
+        "{\"global\":[4294967296,4294967296],\"local\":1,\"sizes\":{\"N\":1},\"inputs\":{\"xs\":[7]}}",
+        "lift: launch: global [4294967296,4294967296], local 1",
+    ),
+    (
+        ROWS,
+        "{\"global\":[3,6],\"local\":[2,3],\"sizes\":{\"N\":1},\"inputs\":{\"xs\":[7]}}",
+        "lift: launch: global [3,6], local [2,3]",
+    ),
+    (
+        ROWS,
+        "{\"global\":[4,4],\"local\":[2,3],\"sizes\":{\"N\":1},\"inputs\":{\"xs\":[7]}}",
+        "lift: launch: global [4,4], local [2,3]",
+    ),
+    (
+        THREE_ROWS,
+        "{\"global\":[6,6],\"local\":[3,2],\"sizes\":{\"N\":1},\"inputs\":{\"xs\":[7]}}",
+        "lift: launch: global [6,6], local [3,2]",
+    ),
+    (
+        THREE_ROWS,
+        "{\"global\":[4,1],\"local\":2,\"sizes\":{\"N\":1},\"inputs\":{\"xs\":[7]}}",
+        "lift: launch: global 4, local 2",
+    ),
+    (
+        PAIRS,
+        "{\"global\":[4,2],\"local\":[2,2],\"sizes\":{\"N\":1},\"inputs\":{\"xs\":[7]}}",
+        "lift: launch: global [4,2], local [2,2]",
+    ),
+    // for one work-item, or for one row of them
+    (
+        TASK,
+        "{\"global\":[1,2],\"local\":1,\"sizes\":{\"N\":1},\"inputs\":{\"xs\":[7]}}",
+        "lift: launch: global [1,2] for one item",
+    ),
+    (
+        ALONE,
+        "{\"global\":[2,3],\"local\":[1,1],\"sizes\":{\"N\":1},\"inputs\":{\"xs\":[7]}}",
+        "lift: launch: global [2,3] for one item",
+    ),
+    (
+        GROUPS,
+        "{\"global\":[2,2],\"local\":[1,1],\"sizes\":{\"N\":1},\"inputs\":{\"xs\":[7]}}",
+        "lift: launch: rows 2 for one row",
+    ),
+    (
+        PAIRS,
+        "{\"global\":[4,3],\"local\":2,\"sizes\":{\"N\":1},\"inputs\":{\"xs\":[7]}}",
+        "lift: launch: rows 3 for one row",
+    ),
+    // a list of other numbers than two
+    (
+        ROWS,
+        "{\"global\":[4],\"local\":1,\"sizes\":{\"N\":1},\"inputs\":{\"xs\":[7]}}",
+        "lift: launch: missing global",
+    ),
+    (
+        ROWS,
+        "{\"global\":[4,1,1],\"local\":1,\"sizes\":{\"N\":1},\"inputs\":{\"xs\":[7]}}",
+        "lift: launch: missing global",
+    ),
+    (
+        ROWS,
+        "{\"global\":[4,-1],\"local\":1,\"sizes\":{\"N\":1},\"inputs\":{\"xs\":[7]}}",
+        "lift: launch: missing global",
+    ),
+    (
+        ROWS,
+        "{\"global\":[4,1],\"local\":[1,[1]],\"sizes\":{\"N\":1},\"inputs\":{\"xs\":[7]}}",
+        "lift: launch: missing local",
+    ),
+    // a cost of rows
+    (
+        COST_OF_PAIRS,
+        "{\"global\":[4,2],\"local\":2,\"sizes\":{\"N\":9}}",
+        "lift: launch: rows 2 for one row",
+    ),
 ];
 
 #[test]
 fn launch_files_are_read_or_refused(rt: HostRuntime) -> Result<(), Fail> {
-    for (ask, text, wanted) in ANSWERS {
-        assert!(rt; gives(rt.alloc(), NUMBERS, *ask, text, wanted));
+    for (reading, text, wanted) in ANSWERS {
+        assert!(rt; gives(rt.alloc(), NUMBERS, *reading, text, wanted));
     }
     Ok(())
 }
 
 // Each text fails at two checks, of which the first is told, or at one alone.
-const FIRST_FAILURES: &[(Ask, &str, &str)] = &[
+const FIRST_FAILURES: &[(Reading, &str, &str)] = &[
     (TASK, "[]", "lift: launch: not json"),
     (
         TASK,
@@ -335,17 +531,17 @@ const FIRST_FAILURES: &[(Ask, &str, &str)] = &[
         "lift: launch: missing inputs.xs",
     ),
     (
-        Ask::Eval,
+        Reading::Eval,
         "{\"sizes\":{\"N\":2,\"M\":1},\"inputs\":{\"xs\":null}}",
         "lift: launch: shape xs",
     ),
     (
-        Ask::Eval,
+        Reading::Eval,
         "{\"sizes\":{\"N\":2,\"M\":1},\"inputs\":{\"xs\":[1,2]}}",
         "lift: launch: missing inputs.ps",
     ),
     (
-        Ask::Eval,
+        Reading::Eval,
         "{\"sizes\":{\"N\":2,\"M\":1},\"inputs\":{\"xs\":[1,2],\"ps\":[[[1,2],[3,4,5]]]}}",
         "lift: launch: shape ps",
     ),
@@ -353,8 +549,8 @@ const FIRST_FAILURES: &[(Ask, &str, &str)] = &[
 
 #[test]
 fn the_first_check_that_fails_is_told(rt: HostRuntime) -> Result<(), Fail> {
-    for (ask, text, wanted) in FIRST_FAILURES {
-        assert!(rt; gives(rt.alloc(), TABLES, *ask, text, wanted));
+    for (reading, text, wanted) in FIRST_FAILURES {
+        assert!(rt; gives(rt.alloc(), TABLES, *reading, text, wanted));
     }
     Ok(())
 }
@@ -365,7 +561,7 @@ fn tables_of_pairs_are_read(rt: HostRuntime) -> Result<(), Fail> {
         "{\"sizes\":{\"N\":4,\"M\":3},\"inputs\":{\"xs\":[0,4,0,7],\"ps\":[[[1,2],[3,4]],[[5,6],[7,8]],[[9,0],[4294967295,1]]]}}";
     let wanted =
         "1x1 1x1 [4, 3] [2, 3] [] {\"value\":[0,4,0,7]}\n{\"value\":[[[1,2],[3,4]],[[5,6],[7,8]],[[9,0],[4294967295,1]]]}\n";
-    assert!(rt; gives(rt.alloc(), TABLES, Ask::Eval, text, wanted));
+    assert!(rt; gives(rt.alloc(), TABLES, Reading::Eval, text, wanted));
     Ok(())
 }
 

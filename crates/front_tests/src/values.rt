@@ -2,7 +2,7 @@
 
 use crate::types::typed;
 use lift_tree::program::Program;
-use lift_tree::term::{BinaryForm, FoldKind, MapKind, Operator, Term, UnaryForm};
+use lift_tree::term::{BinaryForm, Dimension, FoldKind, Level, MapKind, Operator, Term, UnaryForm};
 use lift_tree::ty::Ty;
 use lift_tree::typed::{NodeTypes, Typed};
 use lift_tree::value::Val;
@@ -290,9 +290,12 @@ fn memory_keeps_value(alloc: Global, memory: UnaryForm) -> Result<bool, Fail> {
 #[test]
 fn maps_have_one_value_however_they_are_run(rt: HostRuntime) -> Result<(), Fail> {
     for kind in [
-        MapKind::Global,
-        MapKind::WorkGroup,
-        MapKind::Local,
+        MapKind::Over(Level::Launch, Dimension::X),
+        MapKind::Over(Level::Groups, Dimension::X),
+        MapKind::Over(Level::Items, Dimension::X),
+        MapKind::Over(Level::Launch, Dimension::Y),
+        MapKind::Over(Level::Groups, Dimension::Y),
+        MapKind::Over(Level::Items, Dimension::Y),
         MapKind::Sequential,
     ] {
         assert!(rt; map_has_value(rt.alloc(), kind)?);

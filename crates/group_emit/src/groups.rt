@@ -35,7 +35,11 @@ fn turn_over_groups(once: bool) -> Turn
     ensures { turn_formula (number_of result)
         ≡ printer.turn_formula (form_over_groups once) WorkGroup 0 }
 {
-    if once { Turn::Group } else { Turn::Loop(0) }
+    if once {
+        Turn::Group(Dimension::X)
+    } else {
+        Turn::Loop(0)
+    }
 }
 
 // In how many loops such a turn's code stands.
@@ -114,7 +118,7 @@ fn group_statement(
         (forms_in setting.now) (inputs_of setting.now) (fence_in setting.now)
         (scope_of scope.now) (map_of map.now) (view_in target.now)) }
 {
-    let once = setting.is_over_one(&map.length);
+    let once = setting.is_over_one(Dimension::X, &map.length);
     let turn = turn_over_groups(once);
     let element = argument(
         alloc,

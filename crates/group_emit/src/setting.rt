@@ -4,14 +4,14 @@ ghost use Rattle.std.specs.Prelude.{◌≡◌, OnOk};
 ghost use Rattle.barrier_placement.specs.Fencing.{fence};
 ghost use Rattle.group_form.specs.Printer as printer;
 ghost use Rattle.item_emit.specs.Blocks.{code_in};
-ghost use Rattle.group_emit.specs.Settings.{fence_in, fencing_in, forms_in};
-ghost use Rattle.group_form.specs.ChosenForms.{form_of};
+ghost use Rattle.group_emit.specs.Settings.{fence_in, fencing_in, forms_along};
+ghost use Rattle.group_form.specs.ChosenForms.{form_of, forms_by};
 
 use barrier_placement::Barrier;
 use group_form::chosen::{MapForm, is_over_one, local_form};
 use item_emit::arguments::Declared;
 use item_emit::block::Block;
-use kernel_tree::tree::Stmt;
+use kernel_tree::tree::{Dimension, Stmt};
 use size_arith::Poly;
 use std::alloc::AllocError;
 
@@ -23,7 +23,7 @@ pub struct Setting<'p> {
     pub barriers: &'p [Barrier],
     pub phases: u32,
     /// The local size, where the script fixes it.
-    pub local: Option<u32>,
+    pub local: Option<(u32, u32)>,
 }
 
 // The barrier just before a phase, or the one that closes a body of so many.
@@ -43,18 +43,31 @@ fn barrier_before(barriers: &[Barrier], phases: u32, phase: u32) -> Option<Barri
 }
 
 impl<'p> Setting<'p> {
-    /// The form of a local map of this length.
-    pub fn local_form(&self, length: &Poly) -> MapForm
-        ensures { form_of result ≡ (forms_in self.now).local length.now }
+    // The size that groups have along a dimension.
+    fn size_along(&self, dimension: Dimension) -> Option<u32>
+        ensures { forms_by self.now.declared.names.now result ≡ forms_along dimension self.now }
     {
-        local_form(self.declared.names, self.local, length)
+        match self.local {
+            Some((across, down)) => match dimension {
+                Dimension::X => Some(across),
+                Dimension::Y => Some(down),
+            },
+            None => None,
+        }
     }
 
-    /// Whether a map over so many work-groups is an `if`.
-    pub fn is_over_one(&self, length: &Poly) -> bool
-        ensures { result ≡ (forms_in self.now).once length.now }
+    /// The form of a local map of this length along a dimension.
+    pub fn local_form(&self, dimension: Dimension, length: &Poly) -> MapForm
+        ensures { form_of result ≡ (forms_along dimension self.now).local length.now }
     {
-        is_over_one(self.declared.names, self.local, length)
+        local_form(self.declared.names, self.size_along(dimension), length)
+    }
+
+    /// Whether a map over so many work-groups along a dimension is an `if`.
+    pub fn is_over_one(&self, dimension: Dimension, length: &Poly) -> bool
+        ensures { result ≡ (forms_along dimension self.now).once length.now }
+    {
+        is_over_one(self.declared.names, self.size_along(dimension), length)
     }
 
     /// Puts the barrier, if any, that stands just before a phase or, where there is none of that

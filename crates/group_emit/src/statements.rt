@@ -42,8 +42,13 @@ pub struct Site<'s> {
 }
 
 impl Site<'_> {
-    // What stands here for an argument, whose copies are local.
-    fn argument(&self, alloc: Global, setting: &Setting, term: &Term) -> Result<View, AllocError>
+    /// What stands here for an argument, whose copies are local.
+    pub fn argument(
+        &self,
+        alloc: Global,
+        setting: &Setting,
+        term: &Term,
+    ) -> Result<View, AllocError>
         requires { HasShortCopies (term_of term.now) }
         ensures { IfOk result (λ v. view_in v ≡ argument_view local_arrays (spell_of setting.now)
             (inputs_of setting.now) (scope_of self.now.scope.now) self.now.used.locals
@@ -66,12 +71,12 @@ fn local_turn(form: MapForm, depth: u32) -> Turn
 {
     match form {
         MapForm::Looped => Turn::Loop(depth),
-        MapForm::Guarded | MapForm::Alone => Turn::Local,
+        MapForm::Guarded | MapForm::Alone => Turn::Local(Dimension::X),
     }
 }
 
-// In how many loops a turn of a map in this form stands, where the map stands in so many.
-fn depth_in(form: MapForm, depth: u32) -> Result<u32, AllocError>
+/// In how many loops a turn of a map in this form stands, where the map stands in so many.
+pub fn depth_in(form: MapForm, depth: u32) -> Result<u32, AllocError>
     ensures { IfOk result (λ n. n ≡ printer.depth_in (form_of form) depth) }
 {
     match form {
@@ -97,7 +102,7 @@ fn put_local_turn(
         (load_set_of map.now.loads) (view_in array.now) (term_of map.now.body)
         (view_in target.now) (code_in block.old)) }
 {
-    let form = setting.local_form(&map.length);
+    let form = setting.local_form(Dimension::X, &map.length);
     let turn = local_turn(form, site.depth);
     let element = item::at_turn(alloc, array, turn)?;
     let first_load = site.used.variables;
@@ -134,8 +139,9 @@ fn local_block(
     Ok(turn)
 }
 
-// The statement of a local map over this array, or its turn alone, as its length's form is.
-fn put_local_map(
+/// The statement of a local map along a row over this array, or its turn alone, as its length's
+/// form is.
+pub fn put_local_map(
     alloc: Global,
     setting: &Setting,
     site: &Site,
@@ -151,7 +157,7 @@ fn put_local_map(
         (load_set_of map.now.loads) (view_in array.now) (term_of map.now.body)
         (view_in target.now) (code_in block.old)) }
 {
-    match setting.local_form(&map.length) {
+    match setting.local_form(Dimension::X, &map.length) {
         MapForm::Alone => put_local_turn(alloc, setting, site, map, array, target, block),
         MapForm::Guarded => {
             let turn = local_block(alloc, setting, site, map, array, target)?;

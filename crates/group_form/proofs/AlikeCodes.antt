@@ -25,7 +25,7 @@ local_below l item whole = mod-lt (column_of l item) whole.x.positive
 
 module _ (l : Launch) (item : ℕ) where
   -- what stands before a phase
-  past : (ts : List ℕ) (f g : Fencing) (a b c d : Code) → f ≡ g → IsPast f a c → IsPast g b d → Alike true l item ts c d → Alike true l item ts a b
+  pub past : (ts : List ℕ) (f g : Fencing) (a b c d : Code) → f ≡ g → IsPast f a c → IsPast g b d → Alike true l item ts c d → Alike true l item ts a b
   past ts f g a b c d same x y h = alike_by true l item ts a b (fenced f c) (fenced f d) x (subst (λ z. IsPast z b d) (sym same) y) (go f)
     where
       go : (f : Fencing) → Alike true l item ts (fenced f c) (fenced f d)
@@ -33,7 +33,7 @@ module _ (l : Launch) (item : ℕ) where
       go (Fenced on_local on_global) = ((refl, refl, refl), h)
 
   module _ (ins : ℕ → Marks) where
-    loaded : (ts : List ℕ) (loads : LoadSet) (e : Marks) (n : ℕ) (a b c d : Code) → IsLoaded l item ins ts loads e n a c → IsLoaded l item ins ts loads e n b d → Alike true l item ts c d → Alike true l item ts a b
+    pub loaded : (ts : List ℕ) (loads : LoadSet) (e : Marks) (n : ℕ) (a b c d : Code) → IsLoaded l item ins ts loads e n a c → IsLoaded l item ins ts loads e n b d → Alike true l item ts c d → Alike true l item ts a b
     loaded = alike_loaded true l item ins
 
     -- a map in a form, of which the item takes a turn where it is the turn alone

@@ -38,7 +38,7 @@ abbrev pub BarriersAreDetermined : Type 0
 BarriersAreDetermined = (touches : List Touch) (once : Bool) (n : ℕ) (one other : ℕ → Fencing) → Needed touches once n one → Needed touches once n other → (q : ℕ) → q ≤ n → one q ≡ other q
 
 module _ (determined : BarriersAreDetermined) (keep : KernelsKeep) (serve : KernelsServe) (begins : KernelsStart)
-    (d : Declared) (asks : Asks) (w : World) (t : Tree) (a : Annotation) (l : Launch) (c : Cells) (program : IsLowerableProgram d w.bases t a) (stands : StandsOverGroups (lowered_root d.names t a)) (ok : IsAdmissible d w) (launch : IsLaunchOf d asks w.bases l) (buffers : AreBuffersOf d w t a c) where
+    (d : Declared) (asks : Asks) (w : World) (t : Tree) (a : Annotation) (l : Launch) (c : Cells) (program : IsLowerableProgram d w.bases t a) (stands : StandsOverGroups (lowered_root d.names t a)) (ok : IsAdmissible d w) (launch : IsLaunchOf d asks w.bases t a l) (buffers : AreBuffersOf d w t a c) where
   module _ (k : Kernel) (s : State) (printed : PrintsGroups d asks.local w.bases t a l k) (start : IsStart k l c s) where
     keeps : EveryRunKeeps k l c (cell_owner d.names w.bases l t a) (lists_of (type_in a) (meaning w [] t))
     keeps = keep OfGroups d asks w t a l k c program stands ok launch buffers printed

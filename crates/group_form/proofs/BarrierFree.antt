@@ -23,7 +23,7 @@ use Rattle.group_form.proofs.InRange.{all_within}
 use Rattle.group_form.proofs.Copies.{launch_no_copies, no_copies}
 
 module _ (keep : PrintedProgramsKeep) (begins : PrintedProgramsStart) (d : Declared) (asks : Asks) (w : World) (t : Tree) (a : Annotation) (l : Launch) (k : Kernel) (c : Cells)
-    (program : IsLowerableProgram d w.bases t a) (stands : StandsAt l (lowered_root d.names t a)) (ok : IsAdmissible d w) (launch : IsLaunchOf d asks w.bases l) (buffers : AreBuffersOf d w t a c) (printed : Prints d asks.local w.bases t a l k) where
+    (program : IsLowerableProgram d w.bases t a) (stands : StandsAt l (lowered_root d.names t a)) (ok : IsAdmissible d w) (launch : IsLaunchOf d asks w.bases t a l) (buffers : AreBuffersOf d w t a c) (printed : Prints d asks.local w.bases t a l k) where
   whole : IsWhole l
   whole = (begins d asks w t a l k c program ok launch buffers printed).whole
 

@@ -32,7 +32,7 @@ one_of : (k : ℕ) → (pos k *ℤ pos 1) +ℤ pos 0 ≡ pos k
 one_of k = omega (arith, ints)
 
 -- a literal is so long at every launch
-literal_is : (ys : List ℕ) (k : ℕ) (n : List Monomial) → is_literal k n ≡ true → length_at ys n ≡ k
+pub literal_is : (ys : List ℕ) (k : ℕ) (n : List Monomial) → is_literal k n ≡ true → length_at ys n ≡ k
 literal_is ys k [] h = absurd (true≢false (sym h))
 literal_is ys k (m ∷ p ∷ ps) h = absurd (true≢false (sym h))
 literal_is ys k (m ∷ []) h =
@@ -40,7 +40,7 @@ literal_is ys k (m ∷ []) h =
     ap (λ z. natural ((z *ℤ pos (product ys m.powers)) +ℤ pos 0)) ((Decides-int_eq m.coefficient (pos k)).0 parts.0)
     ∙ ap (λ z. natural ((pos k *ℤ pos z) +ℤ pos 0)) (no_power ys m.powers parts.1) ∙ ap natural (one_of k)
 
-natural_most : (z : ℤ) (m : ℕ) → z ≤ℤ pos m → natural z < 2 ^ 31 → natural z ≤ m
+pub natural_most : (z : ℤ) (m : ℕ) → z ≤ℤ pos m → natural z < 2 ^ 31 → natural z ≤ m
 natural_most (pos n) m h s = omega (arith, ints)
 natural_most (negsuc n) m h s = absurd (omega arith)
 
@@ -56,16 +56,16 @@ module _ (names : List Name) (ys : List ℕ) (named : AreNames names) (admissibl
           omega arith
       by_tests false false p q = tt
 
-  pub forms_make_turns : (size : Option ℕ) → IsFixedSize size l.local.0 → MakeTurns (forms_of names size) (length_at ys) l
+  pub forms_make_turns : (size : Option (ℕ × ℕ)) → IsFixedSize size l.local → MakeTurns (forms_of names size) (length_at ys) l
   forms_make_turns None fixed = record { local = λ n short. tt; once = λ n e. absurd (true≢false (sym e)) }
-  forms_make_turns (Some size) fixed = record { local = local_makes size fixed; once = literal_is ys 1 }
+  forms_make_turns (Some size) fixed = record { local = local_makes size.0 (ap (λ z. z.0) fixed); once = literal_is ys 1 }
 
 -- the turn alone is of just the size
-pub alone_is : (names : List Name) (ys : List ℕ) (l : Launch) (size : Option ℕ) → IsFixedSize size l.local.0 → (n : List Monomial) → (forms_of names size).local n ≡ Alone → length_at ys n ≡ l.local.0
+pub alone_is : (names : List Name) (ys : List ℕ) (l : Launch) (size : Option (ℕ × ℕ)) → IsFixedSize size l.local → (n : List Monomial) → (forms_of names size).local n ≡ Alone → length_at ys n ≡ l.local.0
 alone_is names ys l None fixed n h = absurd (cc)
-alone_is names ys l (Some size) fixed n h = by_tests (is_literal size n) (nat_le (largest names n) size) refl h
+alone_is names ys l (Some size) fixed n h = by_tests (is_literal size.0 n) (nat_le (largest names n) size.0) refl h
   where
-    by_tests : (a b : Bool) → is_literal size n ≡ a → (if a then Alone else (if b then Guarded else Looped)) ≡ Alone → length_at ys n ≡ l.local.0
-    by_tests true b p e = literal_is ys size n p ∙ sym fixed
+    by_tests : (a b : Bool) → is_literal size.0 n ≡ a → (if a then Alone else (if b then Guarded else Looped)) ≡ Alone → length_at ys n ≡ l.local.0
+    by_tests true b p e = literal_is ys size.0 n p ∙ sym (ap (λ z. z.0) fixed)
     by_tests false true p e = absurd (cc)
     by_tests false false p e = absurd (cc)

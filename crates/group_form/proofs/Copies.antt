@@ -4,14 +4,14 @@ use Rattle.std.specs.Prelude.{replicate}
 use Rattle.std.proofs.lemmas.List.{length-replicate, get_or-replicate}
 use Rattle.kernel_tree.specs.Code.{Array, Local as LocalArray}
 use Rattle.lift_ir.specs.Types.{width, size}
-use Rattle.lift_ir.specs.Forms.{Stands, StandsOverLaunch}
-use Rattle.lift_ir.specs.Terms.{Global, Local, Sequential, Space, LocalMemory, PrivateMemory, Term, Bound, Source, Both, Project, Reshape, LetArray, LetElement, Map, Fold, Store, Copy}
+use Rattle.lift_ir.specs.Forms.{Stands, StandsAlongRow, StandsOverLaunch}
+use Rattle.lift_ir.specs.Terms.{Global, GlobalRows, Local, Sequential, Space, LocalMemory, PrivateMemory, Term, Bound, Source, Both, Project, Reshape, LetArray, LetElement, Map, Fold, Store, Copy}
 use Rattle.printed_form.specs.Counts.{variable_count, private_count, copy_lengths, local_count}
 use Rattle.printed_form.proofs.Lengths.{AreLong, joined, long_left, long_right}
 use Rattle.group_form.specs.Forms.{StandsInGroup, IsOfInputs}
 use Rattle.group_form.specs.Whole.{DeclaresLocals}
 
-both_empty : (xs ys : List ℕ) → xs ≡ [] → ys ≡ [] → xs ++ ys ≡ []
+pub both_empty : (xs ys : List ℕ) → xs ≡ [] → ys ≡ [] → xs ++ ys ≡ []
 both_empty xs ys d e = ap (λ z. z ++ ys) d ∙ e
 
 -- one item's term has none
@@ -31,11 +31,18 @@ no_copies false (LetArray v b) f = both_empty (copy_lengths LocalMemory v) (copy
 no_copies false (Copy PrivateMemory ty a) f = both_empty (copy_lengths LocalMemory a) [] (no_copies true a f) refl
 no_copies _ _ f = absurd (assumption)
 
--- nor has a term over the launch
+-- nor has a map along a row
+along_no_copies : {A : Type 0} (t : Term A) → StandsAlongRow t → copy_lengths LocalMemory t ≡ []
+along_no_copies (Reshape y t) f = along_no_copies t f.1
+along_no_copies (Map Global n loads xs b) f = both_empty (copy_lengths LocalMemory xs) (copy_lengths LocalMemory b) (no_copies false xs f.0) (no_copies true b f.1)
+along_no_copies _ f = absurd f
+
+-- nor a term over the launch
 pub launch_no_copies : {A : Type 0} (t : Term A) → StandsOverLaunch t → copy_lengths LocalMemory t ≡ []
 launch_no_copies (Reshape y t) f = launch_no_copies t f.1
 launch_no_copies (LetArray v b) f = both_empty (copy_lengths LocalMemory v) (copy_lengths LocalMemory b) (no_copies false v f.0) (launch_no_copies b f.1)
 launch_no_copies (Map Global n loads xs b) f = both_empty (copy_lengths LocalMemory xs) (copy_lengths LocalMemory b) (no_copies false xs f.0) (no_copies true b f.1)
+launch_no_copies (Map GlobalRows n loads xs b) f = both_empty (copy_lengths LocalMemory xs) (copy_lengths LocalMemory b) (no_copies false xs f.0) (along_no_copies b f.1)
 launch_no_copies _ f = absurd f
 
 -- as many local arrays are declared as are counted

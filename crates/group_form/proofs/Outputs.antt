@@ -29,17 +29,17 @@ laid_under num y u ty whole outer path t r a = record {
 pub laid_itself : (ty : Ty) → IsLaid ty ty (λ p. p) (λ p. p)
 laid_itself ty = record { inside = λ cs p x. x; returns = λ cs p x. refl; covers = λ cs p x. (x, refl) }
 
-abbrev array_number : Array → ℕ
+abbrev pub array_number : Array → ℕ
 array_number (Input n) = n
 array_number (Output n) = n
 array_number (LocalArray n) = n
 array_number (Private n) = n
 
-abbrev spot_array : Mark → ℕ
+abbrev pub spot_array : Mark → ℕ
 spot_array (Spot a n) = array_number a
 spot_array _ = 0
 
-abbrev spot_index : Mark → ℕ
+abbrev pub spot_index : Mark → ℕ
 spot_index (Spot a n) = n
 spot_index _ = 0
 

@@ -36,7 +36,7 @@ use Rattle.group_form.proofs.Sight as sight
 use Rattle.group_form.proofs.Counters.{Chained, first_is, home_at, in_order}
 use Rattle.group_form.proofs.Uses.{reading, writing, element_told, variable_told, bent_not_plain, write_told, among_numbered}
 
-choices_component : (t : Ty) (cs : List Bool) (p : List ℕ) → IsPosition t cs p → choices_at t (component t cs) ≡ cs
+pub choices_component : (t : Ty) (cs : List Bool) (p : List ℕ) → IsPosition t cs p → choices_at t (component t cs) ≡ cs
 choices_component Scalar [] p w = refl
 choices_component Scalar (c ∷ cs) p w = absurd w
 choices_component (PairOf a b) [] p w = absurd w

@@ -12,7 +12,7 @@ use Rattle.group_form.proofs.Lists.{long_append}
 use Rattle.group_form.proofs.Theorem.{some_phase}
 use Rattle.group_form.proofs.Uses.{all_local}
 
-joined : {X : Type 0} (n m : ℕ) (xs ys : List X) → length xs ≡ n → length ys ≡ m → length (xs ++ ys) ≡ n + m
+pub joined : {X : Type 0} (n m : ℕ) (xs ys : List X) → length xs ≡ n → length ys ≡ m → length (xs ++ ys) ≡ n + m
 joined n m xs ys e f = let a = long_append xs ys in omega arith
 
 module _ {A : Type 0} where
@@ -42,7 +42,7 @@ module _ {A : Type 0} where
   uses_long (Map WorkGroup n loads xs b) f = written_long b (λ v. Elsewhere) 0 Outputs false f.1
   uses_long _ f = absurd (assumption)
 
-abbrev Below : ℕ → List Touch → Type 0
+abbrev pub Below : ℕ → List Touch → Type 0
 Below n ts = All (λ x. x.phase < n) ts
 
 below_before : (q n : ℕ) (us : List Use) (ts : List Touch) → q < n → Below n ts → Below n (touches_in q us ++ ts)
@@ -50,7 +50,7 @@ below_before q n [] ts lt h k d kl = h k d kl
 below_before q n (u ∷ us) ts lt h zero d kl = lt
 below_before q n (u ∷ us) ts lt h (suc k) d kl = below_before q n us ts lt h k d (omega arith)
 
-numbered_below : (q n : ℕ) (uss : List (List Use)) → q + length uss ≤ n → Below n (numbered q uss)
+pub numbered_below : (q n : ℕ) (uss : List (List Use)) → q + length uss ≤ n → Below n (numbered q uss)
 numbered_below q n [] le k d kl = absurd (omega arith)
 numbered_below q n (us ∷ uss) le k d kl = below_before q n us (numbered (suc q) uss) (omega arith) (numbered_below (suc q) n uss (omega arith)) k d kl
 

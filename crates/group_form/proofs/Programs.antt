@@ -39,7 +39,7 @@ use Rattle.group_form.specs.Printer.{group_kernel_code, printed_group_kernel, Gr
 use Rattle.group_form.specs.Programs.{PrintsGroups}
 use Rattle.group_form.proofs.ChosenForms.{forms_make_turns}
 
-module _ (d : Declared) (asks : Asks) (w : World) (t : Tree) (a : Annotation) (l : Launch) (k : Kernel) (c : Cells) (program : IsLowerableProgram d w.bases t a) (stands : StandsOverGroups (lowered_root d.names t a)) (ok : IsAdmissible d w) (launch : IsLaunchOf d asks w.bases l) (buffers : AreBuffersOf d w t a c) (printed : PrintsGroups d asks.local w.bases t a l k) where
+module _ (d : Declared) (asks : Asks) (w : World) (t : Tree) (a : Annotation) (l : Launch) (k : Kernel) (c : Cells) (program : IsLowerableProgram d w.bases t a) (stands : StandsOverGroups (lowered_root d.names t a)) (ok : IsAdmissible d w) (launch : IsLaunchOf d asks w.bases t a l) (buffers : AreBuffersOf d w t a c) (printed : PrintsGroups d asks.local w.bases t a l k) where
   abbrev num : List Monomial → ℕ
   num = length_at w.bases
 
@@ -86,7 +86,7 @@ module _ (d : Declared) (asks : Asks) (w : World) (t : Tree) (a : Annotation) (l
 
 -- what the printer makes of a typed term, with the needed barriers, is printed for it
 pub groups_are_printed : GroupPrinterPrints (List Monomial) → (d : Declared) (asks : Asks) (bases : List ℕ) (t : Tree) (a : Annotation) (l : Launch) (spell : List Monomial → Formula) (fence : ℕ → Fencing)
-    → IsLowerableProgram d bases t a → IsLaunchOf d asks bases l → IsStaged Written t a → StandsOverGroups (lowered_root d.names t a) → FitsBuffers d bases a → IsSpelling spell bases l → AreNeededBy OfGroups d asks.local fence t a
+    → IsLowerableProgram d bases t a → IsLaunchOf d asks bases t a l → IsStaged Written t a → StandsOverGroups (lowered_root d.names t a) → FitsBuffers d bases a → IsSpelling spell bases l → AreNeededBy OfGroups d asks.local fence t a
     → PrintsGroups d asks.local bases t a l (printed_group_kernel spell fence d asks.local t a)
 groups_are_printed prints d asks bases t a l spell fence program launch staged stands placed spelled needed =
     let num = length_at bases in

@@ -3,7 +3,7 @@ use Rattle.std.proofs.Common.{◌≡◌, ℕ, ◌<◌, ◌^◌, List, ◌∷◌,
 use Rattle.kernel_tree.specs.Code.{start_value}
 use Rattle.kernel_tree.specs.Launch.{Launch, ids_of}
 use Rattle.lift_ir.specs.Types.{Ty, ArrayOf}
-use Rattle.lift_ir.specs.Terms.{Kind, Global, WorkGroup, Local, Sequential}
+use Rattle.lift_ir.specs.Terms.{Kind, Global, WorkGroup, Local, Sequential, GlobalRows, WorkGroupRows, LocalRows}
 use Rattle.lift_ir.specs.Scalars.{at_index}
 use Rattle.printed_form.specs.Form.{start_of}
 use Rattle.printed_form.specs.MapForms.{MapForm, Looped, Guarded, Alone, variables_in}
@@ -20,6 +20,9 @@ module _ (l : Launch) (item : ℕ) where
   id_means WorkGroup i ts own lt = record { fits = omega arith; always = λ vs. ap Some (sym own) }
   id_means Local i ts own lt = record { fits = omega arith; always = λ vs. ap Some (sym own) }
   id_means Sequential i ts own lt = record { fits = omega arith; always = λ vs. ap Some (sym own) }
+  id_means GlobalRows i ts own lt = record { fits = omega arith; always = λ vs. ap Some (sym own) }
+  id_means WorkGroupRows i ts own lt = record { fits = omega arith; always = λ vs. ap Some (sym own) }
+  id_means LocalRows i ts own lt = record { fits = omega arith; always = λ vs. ap Some (sym own) }
 
   pub own_cells : (ts : List ℕ) (k : Kind) (i n : ℕ) (t : Ty) (x : View) (y : Marks) → i ≡ start_value (ids_of l item) (start_of k) → i < n → n < 2 ^ 31 → HasCells l item ts (ArrayOf n t) x y → HasCells l item ts t (view_at (id_of k) x) (at_index i y)
   own_cells ts k i n t x y own lt small h us cs is q w g = h us cs (id_of k ∷ is) (i ∷ q) (lt, w) (id_means k i (ts ++ us) own (omega arith), g)

@@ -14,7 +14,7 @@ use Rattle.lift_ir.specs.Types.{Ty, Scalar, PairOf, ArrayOf, IsPosition, IsFlat,
 use Rattle.lift_ir.specs.Layouts.{operand_position, result_position}
 use Rattle.lift_ir.specs.Terms.{LoadSet, Skip, Take, Each, WorkGroup, Local, LocalMemory, Term, Bound, Source, Both, Project, Reshape, LetArray, Map, LoadsScalars, push, HasType, no_type}
 use Rattle.lift_ir.specs.Scalars.{Scalars, by_side, at_index, scalars_of, no_scalars, AreLists}
-use Rattle.lift_ir.specs.Owner.{local_owner, owner}
+use Rattle.lift_ir.specs.Owner.{local_owner, owner, is_in_rows}
 use Rattle.lift_ir.proofs.Owner.{owner_below}
 use Rattle.lift_ir.proofs.Positions.{operand_in, result_in}
 use Rattle.printed_form.specs.Counts.{load_count, variable_count, private_count, copy_lengths}
@@ -66,6 +66,17 @@ owner_of_row num l (LetArray v b) p some f = owner_of_row num l b p some f.1
 owner_of_row num l (Map Local n loads xs b) [] some f = sym (mod-eq_of_lt some)
 owner_of_row num l (Map Local n loads xs b) (j ∷ p) some f = refl
 owner_of_row num l _ p some f = absurd (assumption)
+
+-- in the first row
+first_line : (x g : ℕ) → x + 0 * g ≡ x
+first_line x g = omega arith
+
+-- a map over groups of one row has no map over rows on top
+not_in_rows : {A : Type 0} (t : Term A) → StandsOverGroups t → is_in_rows t ≡ false
+not_in_rows (Reshape y t) f = not_in_rows t f.1
+not_in_rows (LetArray v b) f = not_in_rows b f.1
+not_in_rows (Map WorkGroup n loads xs b) f = refl
+not_in_rows _ f = absurd (assumption)
 
 local_below : (g n m : ℕ) → g ≡ m * n → 0 < g → n ≤ g
 local_below g n zero e h = let z : 0 * n ≡ 0 = omega arith in absurd (omega arith)
@@ -248,7 +259,7 @@ module _ {A : Type 0} (num : A → ℕ) (forms : MapForms A) (k : Kernel) (l : L
                     shape = h.shape;
                     listed = h.listed;
                     values = λ cs i p z. values cs i p z ∙ sym (last.value i cs p);
-                    owned = λ i p. ap (λ z. (i % groups_across l) * l.local.0 + z) (owner_of_row num l b p h.launch.x.positive stands ∙ ap (λ z. z % l.local.0) (sym (last.rows p)));
+                    owned = λ i p. first_line ((i % groups_across l) * l.local.0 + local_owner num l b p) l.global.0 ∙ ap (λ z. (i % groups_across l) * l.local.0 + z) (owner_of_row num l b p h.launch.x.positive stands ∙ ap (λ z. z % l.local.0) (sym (last.rows p)));
                     within = λ p. owner_below num l term p h.launch h.some;
                   });
             });
@@ -295,7 +306,7 @@ module _ {A : Type 0} (num : A → ℕ) (forms : MapForms A) (l : Launch) (src :
 
   its_phases : AreItsPhases num forms k l c lists fence of_owner t
   its_phases =
-      term_phases num forms k l c lists ins src sources ty (scalars_of num sources no_scalars t) fence (record { launch = h.made.whole; flat = h.made.flat; some = h.made.some; few = h.made.few; makes = h.makes; inputs = h.made.inputs; flat_type = h.made.flat_type; outputs = h.made.outputs; shape = shape; listed = listed })
+      term_phases num forms k l c lists ins src sources ty (scalars_of num sources no_scalars t) fence (record { launch = h.made.whole; flat = h.made.flat (not_in_rows t h.stands); some = h.made.some; few = h.made.few; makes = h.makes; inputs = h.made.inputs; flat_type = h.made.flat_type; outputs = h.made.outputs; shape = shape; listed = listed })
       t no_type no_marks no_scalars (λ p. p) (λ p. p) ty h.stands h.made.typed (λ v cs p x. nothing cs p x) (laid_itself ty) (λ cs p x. refl) (let e = h.made.variables in omega arith)
       (declares (length_in k c) 0 t (λ i lt. let z : 0 + i ≡ i = omega arith in ap (λ j. slice_index k.privates j) z ∙ ap (λ ns. slice_index ns i) h.made.privates))
       (λ i lt. let z : 0 + i ≡ i = omega arith in ap (λ j. slice_index k.locals j) z ∙ ap (λ ns. slice_index ns i) h.locals) h.code

@@ -20,9 +20,18 @@ local_form names size n =
     if is_literal size n then Alone else (if nat_le (largest names n) size then Guarded else Looped)
 
 -- by the local size, where one is fixed: a map over one work-group is an `if`
-abbrev pub forms_of : List Name → Option ℕ → MapForms (List Monomial)
-forms_of names None = all_loops
-forms_of names (Some size) = record { local = local_form names size; once = is_literal 1 }
+abbrev pub forms_by : List Name → Option ℕ → MapForms (List Monomial)
+forms_by names None = all_loops
+forms_by names (Some size) = record { local = local_form names size; once = is_literal 1 }
+
+-- the maps along a row by its first number, the maps over rows by its second
+abbrev pub forms_of : List Name → Option (ℕ × ℕ) → MapForms (List Monomial)
+forms_of names None = forms_by names None
+forms_of names (Some size) = forms_by names (Some size.0)
+
+abbrev pub row_forms_of : List Name → Option (ℕ × ℕ) → MapForms (List Monomial)
+row_forms_of names None = forms_by names None
+row_forms_of names (Some size) = forms_by names (Some size.1)
 
 -- a form, as the code holds it
 abbrev pub form_of : chosen.MapForm → MapForm

@@ -23,7 +23,11 @@ use Rattle.group_form.specs.ChosenForms.{forms_of}
 use Rattle.group_form.specs.Form.{is_once}
 use Rattle.group_form.specs.Forms.{StandsOverGroups}
 use Rattle.group_form.specs.Printer.{printed_group_kernel}
-use Rattle.group_form.specs.Programs.{PrintsGroups}
+use Rattle.group_form.specs.GridChosen.{grid_forms_of}
+use Rattle.group_form.specs.GridPrinter.{printed_grid_kernel}
+use Rattle.group_form.specs.GridTerms.{StandsOverGrid, grid_touches}
+use Rattle.group_form.specs.GridTheorem.{is_once_over, grid_phase_count}
+use Rattle.group_form.specs.Programs.{PrintsGroups, PrintsGrids}
 use Rattle.group_form.specs.Uses.{phase_count, group_touches}
 
 -- the printer of terms that work-items run each by itself, and that of maps over work-groups, whose
@@ -31,37 +35,46 @@ use Rattle.group_form.specs.Uses.{phase_count, group_touches}
 pub data Printer : Type 0 where
   OfItems : Printer
   OfGroups : Printer
+  OfGrids : Printer
 
 -- the terms that it prints: for one work-item or over the launch, or over work-groups
 abbrev pub StandsFor : Printer → Lowered → Type 0
 StandsFor OfItems t = Stands true t ⊎ StandsOverLaunch t
 StandsFor OfGroups t = StandsOverGroups t
+StandsFor OfGrids t = StandsOverGrid t
 
 -- and at a launch, which is of one work-item where there is no map over the launch or over groups
 abbrev pub StandsForLaunch : Printer → Launch → Lowered → Type 0
 StandsForLaunch OfItems l t = StandsAt l t
 StandsForLaunch OfGroups l t = StandsOverGroups t
+StandsForLaunch OfGrids l t = StandsOverGrid t
 
 -- the barriers that it needs, where this local size is fixed; for single items none matters
-abbrev pub AreNeededBy : Printer → Declared → (local : Option ℕ) → (fence : ℕ → Fencing) → Tree
+abbrev pub AreNeededBy : Printer → Declared → (local : Option (ℕ × ℕ)) → (fence : ℕ → Fencing) → Tree
     → Annotation → Type 0
 AreNeededBy OfItems d local fence t a = Unit {0}
 AreNeededBy OfGroups d local fence t a =
     Needed (group_touches (lowered_root d.names t a))
     (is_once (forms_of d.names local) (lowered_root d.names t a))
     (phase_count (lowered_root d.names t a)) fence
+AreNeededBy OfGrids d local fence t a =
+    Needed (grid_touches (lowered_root d.names t a))
+    (is_once_over (grid_forms_of d.names local) (lowered_root d.names t a))
+    (grid_phase_count (lowered_root d.names t a)) fence
 
 -- the kernel that it makes of the typed term, where lengths are spelled so
 abbrev pub kernel_by : Printer → (List Monomial → Formula) → (fence : ℕ → Fencing) → Declared
-    → (local : Option ℕ) → Tree → Annotation → Kernel
+    → (local : Option (ℕ × ℕ)) → Tree → Annotation → Kernel
 kernel_by OfItems spell fence = printed_kernel spell
 kernel_by OfGroups spell fence = printed_group_kernel spell fence
+kernel_by OfGrids spell fence = printed_grid_kernel spell fence
 
 -- the kernel is printed for the typed term at a launch, where the base names have these values
-abbrev pub PrintsBy : Printer → Declared → (local : Option ℕ) → (bases : List ℕ) → Tree
+abbrev pub PrintsBy : Printer → Declared → (local : Option (ℕ × ℕ)) → (bases : List ℕ) → Tree
     → Annotation → Launch → Kernel → Type 0
 PrintsBy OfItems = Prints
 PrintsBy OfGroups = PrintsGroups
+PrintsBy OfGrids = PrintsGrids
 
 -- with the needed barriers, what the printer makes of a typed term is printed for it, at each
 -- admissible launch
@@ -69,7 +82,7 @@ abbrev pub KernelsArePrinted : Type 0
 KernelsArePrinted =
     (p : Printer) (d : Declared) (asks : Asks) (bases : List ℕ) (t : Tree) (a : Annotation)
     (l : Launch) (spell : List Monomial → Formula) (fence : ℕ → Fencing)
-    → IsLowerableProgram d bases t a → IsLaunchOf d asks bases l → IsStaged Written t a
+    → IsLowerableProgram d bases t a → IsLaunchOf d asks bases t a l → IsStaged Written t a
     → StandsForLaunch p l (lowered_root d.names t a) → FitsBuffers d bases a
     → IsSpelling spell bases l → AreNeededBy p d asks.local fence t a
     → PrintsBy p d asks.local bases t a l (kernel_by p spell fence d asks.local t a)
@@ -81,7 +94,7 @@ KernelsKeep =
     (p : Printer) (d : Declared) (asks : Asks) (w : World) (t : Tree) (a : Annotation) (l : Launch)
     (k : Kernel) (c : Cells)
     → IsLowerableProgram d w.bases t a → StandsForLaunch p l (lowered_root d.names t a)
-    → IsAdmissible d w → IsLaunchOf d asks w.bases l → AreBuffersOf d w t a c
+    → IsAdmissible d w → IsLaunchOf d asks w.bases t a l → AreBuffersOf d w t a c
     → PrintsBy p d asks.local w.bases t a l k
     → EveryRunKeeps k l c (cell_owner d.names w.bases l t a) (lists_of (type_in a) (meaning w [] t))
 
@@ -91,7 +104,7 @@ KernelsServe =
     (p : Printer) (d : Declared) (asks : Asks) (w : World) (t : Tree) (a : Annotation) (l : Launch)
     (k : Kernel) (c : Cells)
     → IsLowerableProgram d w.bases t a → StandsForLaunch p l (lowered_root d.names t a)
-    → IsAdmissible d w → IsLaunchOf d asks w.bases l → AreBuffersOf d w t a c
+    → IsAdmissible d w → IsLaunchOf d asks w.bases t a l → AreBuffersOf d w t a c
     → PrintsBy p d asks.local w.bases t a l k
     → (filler : Cell → ℕ) × BarriersServeAll k l c filler
 
@@ -101,7 +114,7 @@ KernelsStart =
     (p : Printer) (d : Declared) (asks : Asks) (w : World) (t : Tree) (a : Annotation) (l : Launch)
     (k : Kernel) (c : Cells)
     → IsLowerableProgram d w.bases t a → StandsForLaunch p l (lowered_root d.names t a)
-    → IsAdmissible d w → IsLaunchOf d asks w.bases l → AreBuffersOf d w t a c
+    → IsAdmissible d w → IsLaunchOf d asks w.bases t a l → AreBuffersOf d w t a c
     → PrintsBy p d asks.local w.bases t a l k → MayStart k l c
 
 -- any two kernels that are printed for one typed term go alike at one launch and from the same
@@ -112,7 +125,7 @@ KernelsGoAlike =
     (p : Printer) (d : Declared) (asks : Asks) (w : World) (t : Tree) (a : Annotation) (l : Launch)
     (k m : Kernel) (c : Cells) (s r : State)
     → IsLowerableProgram d w.bases t a → StandsForLaunch p l (lowered_root d.names t a)
-    → IsAdmissible d w → IsLaunchOf d asks w.bases l → AreBuffersOf d w t a c
+    → IsAdmissible d w → IsLaunchOf d asks w.bases t a l → AreBuffersOf d w t a c
     → PrintsBy p d asks.local w.bases t a l k → PrintsBy p d asks.local w.bases t a l m
     → IsStart k l c s → IsStart m l c r → SameContents l s r
     → GoesAlike (device_of k l c) s (device_of m l c) r

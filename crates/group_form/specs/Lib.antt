@@ -8,6 +8,11 @@ pub mod Form
 pub mod ChosenForms
 pub mod Whole
 pub mod Theorem
+pub mod GridTerms
+pub mod GridForm
+pub mod GridTheorem
+pub mod GridPrinter
+pub mod GridChosen
 pub mod Programs
 pub mod Printer
 pub mod Kernels

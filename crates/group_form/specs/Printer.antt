@@ -4,13 +4,13 @@ use Rattle.size_arith.specs.declared.poly.Monomial.{Monomial}
 use Rattle.lift_tree.specs.Tree.{Tree}
 use Rattle.lift_tree.specs.Typing.{Declared}
 use Rattle.lift_tree.specs.Annotations.{Annotation, type_in}
-use Rattle.kernel_tree.specs.declared.tree.Dimension.TheVariants.{X}
+use Rattle.kernel_tree.specs.declared.tree.Dimension.TheVariants.{X, Y}
 use Rattle.kernel_tree.specs.Formula.{Formula, LoopVariable, Number, Id, GlobalId, GroupId, LocalId}
 use Rattle.kernel_tree.specs.Code.{Output, Local as LocalArray, Code, End, Loops, Guards, Kernel}
 use Rattle.kernel_tree.specs.Launch.{Launch}
 use Rattle.barrier_placement.specs.Fencing.{Fencing}
 use Rattle.lift_ir.specs.Types.{Shape, measured, IsPlaced}
-use Rattle.lift_ir.specs.Terms.{Kind, Global, WorkGroup, Local, Sequential, LoadSet, Term, Both, Project, Reshape, LetArray, Map, Copy, push, HasType, no_type}
+use Rattle.lift_ir.specs.Terms.{Kind, Global, WorkGroup, Local, Sequential, GlobalRows, WorkGroupRows, LocalRows, LoadSet, Term, Both, Project, Reshape, LetArray, Map, Copy, push, HasType, no_type}
 use Rattle.lift_ir.specs.AtLaunch.{shape_of}
 use Rattle.lift_ir.specs.Loads.{none, LoadsSuffice}
 use Rattle.printed_form.specs.Arguments.{local_arrays, private_arrays, argument_view}
@@ -34,6 +34,9 @@ id_of Global = Id X GlobalId
 id_of WorkGroup = Id X GroupId
 id_of Local = Id X LocalId
 id_of Sequential = Number 0
+id_of GlobalRows = Id Y GlobalId
+id_of WorkGroupRows = Id Y GroupId
+id_of LocalRows = Id Y LocalId
 
 -- what stands for the turn of a map within so many loops
 abbrev pub turn_formula : MapForm → Kind → (depth : ℕ) → Formula
@@ -151,7 +154,7 @@ GroupPrinterPrints A =
 
 -- the kernel that the printer makes of a program's typed term
 abbrev pub printed_group_kernel : (List Monomial → Formula) → (fence : ℕ → Fencing) → Declared
-    → (size : Option ℕ) → Tree → Annotation → Kernel
+    → (size : Option (ℕ × ℕ)) → Tree → Annotation → Kernel
 printed_group_kernel spell fence d size t a =
     declared_kernel d size t a
     (group_kernel_code spell (forms_of d.names size) (first_buffer d.inputs) (input_shape d.inputs)

@@ -4,7 +4,7 @@ ghost use Rattle.std.specs.Prelude.{◌≡◌, ◌==◌, pos};
 ghost use Rattle.std.specs.List.{list_all};
 ghost use Rattle.std.specs.Ordering.{int_eq};
 ghost use Rattle.group_form.specs.ChosenForms as forms;
-ghost use Rattle.group_form.specs.ChosenForms.{form_of, forms_of};
+ghost use Rattle.group_form.specs.ChosenForms.{form_of, forms_by};
 
 use size_arith::{Names, Poly};
 
@@ -46,7 +46,7 @@ fn is_literal(number: u32, length: &Poly) -> bool
 /// The form of a local map of this length: its turn alone where the length is the local size that
 /// is fixed, an `if` where it is shown to be no longer, else a loop.
 pub fn local_form(names: &Names, local: Option<u32>, length: &Poly) -> MapForm
-    ensures { form_of result ≡ (forms_of names.now local).local length.now }
+    ensures { form_of result ≡ (forms_by names.now local).local length.now }
 {
     match local {
         Some(size) => {
@@ -65,7 +65,7 @@ pub fn local_form(names: &Names, local: Option<u32>, length: &Poly) -> MapForm
 /// Whether a map over so many work-groups is an `if`, where a loop has no other turn: over one,
 /// where a local size is fixed.
 pub fn is_over_one(names: &Names, local: Option<u32>, length: &Poly) -> bool
-    ensures { result ≡ (forms_of names.now local).once length.now }
+    ensures { result ≡ (forms_by names.now local).once length.now }
 {
     match local {
         Some(_) => is_literal(1, length),

@@ -3,7 +3,9 @@
 
 ghost use Rattle.group_form.specs.Kernels.{KernelsArePrinted, KernelsGoAlike, KernelsKeep, KernelsServe, KernelsStart};
 
-use crate::laws::{printed_groups_keep, the_group_printer_prints};
+use crate::laws::{
+    grids_keep, printed_groups_keep, the_grid_printer_prints, the_group_printer_prints,
+};
 use barrier_placement::laws::needed_barriers_are_determined;
 use printed_form::laws::{
     printed_programs_go_alike, printed_programs_keep, printed_programs_start, programs_are_printed,
@@ -16,6 +18,7 @@ pub fn kernels_are_printed()
 {
     programs_are_printed();
     the_group_printer_prints();
+    the_grid_printer_prints();
 }
 
 /// A kernel that is printed for a program's typed term may be started at each admissible launch.
@@ -34,6 +37,7 @@ pub fn kernels_keep()
     ensures serve { KernelsServe }
 {
     printed_groups_keep();
+    grids_keep();
     printed_programs_keep();
     printed_programs_start();
 }

@@ -3,10 +3,13 @@
 ghost use Rattle.size_arith.specs.declared.poly.Monomial.{Monomial};
 ghost use Rattle.std.specs.Prelude.{ℕ, List};
 ghost use Rattle.group_form.specs.Printer.{GroupPrinterPrints};
+ghost use Rattle.group_form.specs.GridChosen.{GridFormsMakeTurns};
+ghost use Rattle.group_form.specs.GridPrinter.{GridPrinterPrints};
+ghost use Rattle.group_form.specs.GridTheorem.{GridCodesAlike, GridUsesCanBePlaced, NeededGridsKeep, NeededKeepGridsApart, SeparatedGridsKeep, SeparatedGridsServe};
 ghost use Rattle.group_form.specs.Theorem.{LocalArraysAreCounted, NeededKeepApart, NeededGroupsKeep, SeparatedGroupsKeep, SeparatedGroupsServe, UsesTellBarriers, AlignedNeedNone, GroupUsesCanBePlaced};
 
 use barrier_placement::laws::needed_barriers_separate;
-use group_phases::laws::{numbered_phases_keep, phases_keep};
+use group_phases::laws::{grid_phases_keep, numbered_phases_keep, phases_keep};
 
 /// At every launch, on all inputs, every run of a kernel that is printed for a map over work-groups
 /// with the needed barriers keeps what it owes: the source value's lists, each cell by its owner.
@@ -48,4 +51,23 @@ pub fn the_group_printer_prints()
 /// In a group's turn as many local arrays are declared as are counted.
 pub fn local_arrays_are_counted()
     ensures { LocalArraysAreCounted (List Monomial) }
+{}
+
+/// Two dimensions.
+pub fn grids_keep()
+    ensures needed { NeededGridsKeep (List Monomial) }
+    ensures separated { SeparatedGridsKeep (List Monomial) }
+    ensures serve { SeparatedGridsServe (List Monomial) }
+    ensures apart { NeededKeepGridsApart (List Monomial) }
+    ensures placed { GridUsesCanBePlaced (List Monomial) }
+    ensures alike { GridCodesAlike (List Monomial) }
+{
+    needed_barriers_separate();
+    grid_phases_keep();
+}
+
+/// What the printer makes of a map over rows of work-groups is printed for it.
+pub fn the_grid_printer_prints()
+    ensures prints { GridPrinterPrints (List Monomial) }
+    ensures forms { GridFormsMakeTurns }
 {}

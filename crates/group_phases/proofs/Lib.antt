@@ -2,6 +2,8 @@ pub mod Epochs
 pub mod Written
 pub mod Bodies
 pub mod TurnForms
+pub mod Strides
+pub mod Grids
 pub mod TurnRuns
 pub mod Laps
 pub mod Groups
@@ -10,5 +12,8 @@ pub mod Hops
 pub mod Phased
 pub mod Keeps
 pub mod LocalLoop
+pub mod NestRows
 pub mod Parts
 pub mod Printed
+pub mod GridKernel
+pub mod GridPrinted

@@ -26,30 +26,34 @@ use Rattle.group_phases.proofs.TurnForms.{leads_here, loop_takes, test_takes, gu
 
 module _ (fence : ℕ → Fencing) (IsPhase : ℕ → Code → Code → Type 0) where
   -- the code before what stands before the i-th phase from q on, and after it
-  before_in : (q m : ℕ) (code : Code) → ArePhases fence IsPhase q m code → ℕ → Code
+  pub before_in : (q m : ℕ) (code : Code) → ArePhases fence IsPhase q m code → ℕ → Code
   before_in q m code h zero = code
   before_in q zero code h (suc i) = End
   before_in q (suc m) code h (suc i) = before_in (suc q) m h.1 h.4 i
 
-  code_in : (q m : ℕ) (code : Code) → ArePhases fence IsPhase q m code → ℕ → Code
+  pub code_in : (q m : ℕ) (code : Code) → ArePhases fence IsPhase q m code → ℕ → Code
   code_in q zero code h i = End
   code_in q (suc m) code h zero = h.0
   code_in q (suc m) code h (suc i) = code_in (suc q) m h.1 h.4 i
 
-  past_in : (q m : ℕ) (code : Code) (h : ArePhases fence IsPhase q m code) (i : ℕ) → i ≤ m → IsPast (fence (q + i)) (before_in q m code h i) (code_in q m code h i)
+  pub past_in : (q m : ℕ) (code : Code) (h : ArePhases fence IsPhase q m code) (i : ℕ) → i ≤ m → IsPast (fence (q + i)) (before_in q m code h i) (code_in q m code h i)
   unfolding before_in code_in
   past_in q zero code h zero le = let e : q ≡ q + 0 = omega arith in subst (λ z. IsPast (fence z) code End) e h
   past_in q zero code h (suc i) le = absurd (omega arith)
   past_in q (suc m) code h zero le = let e : q ≡ q + 0 = omega arith in subst (λ z. IsPast (fence z) code h.0) e h.2
   past_in q (suc m) code h (suc i) le = let e : suc q + i ≡ q + suc i = omega arith in subst (λ z. IsPast (fence z) (before_in (suc q) m h.1 h.4 i) (code_in (suc q) m h.1 h.4 i)) e (past_in (suc q) m h.1 h.4 i (omega arith))
 
-  is_in : (q m : ℕ) (code : Code) (h : ArePhases fence IsPhase q m code) (i : ℕ) → i < m → IsPhase (q + i) (code_in q m code h i) (before_in q m code h (suc i))
+  pub is_in : (q m : ℕ) (code : Code) (h : ArePhases fence IsPhase q m code) (i : ℕ) → i < m → IsPhase (q + i) (code_in q m code h i) (before_in q m code h (suc i))
   unfolding before_in code_in
   is_in q zero code h i lt = absurd (omega arith)
   is_in q (suc m) code h zero lt = let e : q ≡ q + 0 = omega arith in subst (λ z. IsPhase z h.0 h.1) e h.3
   is_in q (suc m) code h (suc i) lt = let e : suc q + i ≡ q + suc i = omega arith in subst (λ z. IsPhase z (code_in (suc q) m h.1 h.4 i) (before_in (suc q) m h.1 h.4 (suc i))) e (is_in (suc q) m h.1 h.4 i (omega arith))
 
-  last_in : (q m : ℕ) (code : Code) (h : ArePhases fence IsPhase q m code) → code_in q m code h m ≡ End
+  pub first_in : (q m : ℕ) (code : Code) (h : ArePhases fence IsPhase q m code) → code ≡ before_in q m code h 0
+  unfolding before_in
+  first_in q m code h = refl
+
+  pub last_in : (q m : ℕ) (code : Code) (h : ArePhases fence IsPhase q m code) → code_in q m code h m ≡ End
   unfolding code_in
   last_in q zero code h = refl
   last_in q (suc m) code h = last_in (suc q) m h.1 h.4

@@ -8,5 +8,10 @@ pub mod Phased
 pub mod Outcome
 pub mod Phases
 pub mod Printed
+pub mod GridPhases
+pub mod GridPrinted
+pub mod Grids
 pub mod TurnForms
+pub mod Strides
+pub mod NestRows
 pub mod Hops

@@ -12,6 +12,10 @@ ghost use Rattle.printed_form.specs.Headline.{EveryRunKeeps};
 ghost use Rattle.group_phases.specs.Epochs.{KeepsApart, runs_by_turns, runs_once};
 ghost use Rattle.group_phases.specs.Outcome.{SomeRunLeaves};
 ghost use Rattle.group_phases.specs.TurnForms.{LoopsAreForms, TestsAreForms, GuardsTest, NestsAreForms};
+ghost use Rattle.group_phases.specs.Grids.{OneRowsAreWalked, WalksStayOn, WalksTakeOnce, WalksTakeEach};
+ghost use Rattle.group_phases.specs.NestRows.{MapsAreNests};
+ghost use Rattle.group_phases.specs.Strides.{StatementsAreForms};
+ghost use Rattle.group_phases.specs.GridPrinted.{GridPhasesKeep, GridPhasesServe, NeededGridBarriersKeep};
 ghost use Rattle.group_phases.specs.Printed.{PhasesKeep, PhasesServe, NeededBarriersKeep};
 
 use barrier_placement::laws::needed_barriers_separate;
@@ -35,6 +39,7 @@ pub fn forms_of_turns()
     ensures tests { TestsAreForms }
     ensures guards { GuardsTest }
     ensures nests { NestsAreForms }
+    ensures statements { StatementsAreForms }
 {}
 
 /// The headline from one run of each start, put together of items alone in turn and releases: where
@@ -62,6 +67,28 @@ pub fn numbered_phases_keep()
     ensures keep { PhasesKeep ℕ }
     ensures serve { PhasesServe ℕ }
     ensures needed { NeededBarriersKeep ℕ }
+{
+    needed_barriers_separate();
+}
+
+/// A walk over the places of a grid, along its rows and from row to row, comes to each place that
+/// lies on it at just one turn, and to none else.
+pub fn walks_take_places_once()
+    ensures on_it { WalksStayOn }
+    ensures once { WalksTakeOnce }
+    ensures each { WalksTakeEach }
+    ensures one_row { OneRowsAreWalked }
+    ensures one_map { MapsAreNests (List Monomial) }
+{}
+
+/// A kernel that is printed for phases of two dimensions, each a nest of two maps over the items of
+/// a group, within a nest over the groups of a grid: with any barriers that separate the conflicting
+/// ones, every run keeps the headline, and its barriers serve. So it is with the needed barriers,
+/// where all uses are of local arrays.
+pub fn grid_phases_keep()
+    ensures keep { GridPhasesKeep (List Monomial) }
+    ensures serve { GridPhasesServe (List Monomial) }
+    ensures needed { NeededGridBarriersKeep (List Monomial) }
 {
     needed_barriers_separate();
 }

@@ -11,7 +11,7 @@ use std::test::Fail;
 use tidy_indices::spell_simplified;
 
 // The variable of the outermost loop.
-const I: Tree = Tree::Variable(2, 4294967295);
+const I: Tree = Tree::Variable(4, 4294967295);
 
 const THREE: Tree = Tree::Number(3);
 

@@ -10,15 +10,19 @@ use std::alloc::{AllocError, Global};
 use std::test::Fail;
 use tidy_indices::Place;
 
-// The item's id in its group, and its group's.
+// The item's id in its group, and its group's, along a row and from row to row.
 const OWN: Tree = Tree::Variable(1, 4294967295);
 
 const GROUP: Tree = Tree::Variable(0, 4294967295);
 
-// The variables of the outermost loop, and of the one in it.
-const I: Tree = Tree::Variable(2, 4294967295);
+const OWN_ROW: Tree = Tree::Variable(3, 4294967295);
 
-const J: Tree = Tree::Variable(3, 4294967295);
+const GROUP_ROW: Tree = Tree::Variable(2, 4294967295);
+
+// The variables of the outermost loop, and of the one in it.
+const I: Tree = Tree::Variable(4, 4294967295);
+
+const J: Tree = Tree::Variable(5, 4294967295);
 
 // The bounds of the loops around, an index, and what it becomes.
 type Row = (&'static [Tree], Tree, &'static str);
@@ -557,9 +561,62 @@ struct InGroups {
 // The number of the item's cell in rows of four, of which its group has one.
 const CELL: Tree = Tree::Binary(Sum, &Tree::Binary(Product, &GROUP, &Tree::Number(4)), &OWN);
 
+// The same from row to row.
+const CELL_DOWN: Tree = Tree::Binary(
+    Sum,
+    &Tree::Binary(Product, &GROUP_ROW, &Tree::Number(4)),
+    &OWN_ROW,
+);
+
 // An item's id in its group is below the group's size, where the kernel asks for one, and a group's
 // id is below 65,536.
-const IDS: [InGroups; 12] = [
+const IDS: [InGroups; 17] = [
+    InGroups {
+        size: Some((5, 3)),
+        bounds: &[Tree::Size(2)],
+        index: Tree::Binary(
+            Quotient,
+            &Tree::Binary(Sum, &Tree::Binary(Product, &I, &Tree::Number(3)), &OWN_ROW),
+            &Tree::Number(3),
+        ),
+        tidied: "i0",
+    },
+    InGroups {
+        size: Some((3, 4)),
+        bounds: &[Tree::Size(2)],
+        index: Tree::Binary(
+            Quotient,
+            &Tree::Binary(Sum, &Tree::Binary(Product, &I, &Tree::Number(3)), &OWN_ROW),
+            &Tree::Number(3),
+        ),
+        tidied: "(((i0 * 3) + down) / 3)",
+    },
+    InGroups {
+        size: Some((4, 1)),
+        bounds: &[Tree::Number(6)],
+        index: Tree::Binary(Sum, &I, &OWN_ROW),
+        tidied: "i0",
+    },
+    InGroups {
+        size: Some((2, 4)),
+        bounds: &[],
+        index: Tree::Binary(Quotient, &CELL_DOWN, &Tree::Number(4)),
+        tidied: "group_down",
+    },
+    InGroups {
+        size: None,
+        bounds: &[],
+        index: Tree::Binary(
+            Sum,
+            &Tree::Binary(
+                Product,
+                &Tree::Binary(Quotient, &OWN_ROW, &Tree::Number(3)),
+                &Tree::Number(3),
+            ),
+            &Tree::Binary(Remainder, &OWN_ROW, &Tree::Number(3)),
+        ),
+        tidied: "down",
+    },
     InGroups {
         size: Some((3, 1)),
         bounds: &[Tree::Size(2)],
@@ -692,7 +749,21 @@ const ROW_OF_TWO: Tree = Tree::Binary(
 const WRAPPING_BOUND: Tree = Tree::Binary(Product, &Tree::Size(2), &Tree::Size(2));
 
 // An id is below the bound of the `if` that asks of it, besides what is known of it in the kernel.
-const IFS: [InIf; 11] = [
+const IFS: [InIf; 12] = [
+    InIf {
+        start: Start::LocalId(Dimension::Y),
+        bound: Tree::Number(2),
+        row: InGroups {
+            size: Some((4, 4)),
+            bounds: &[Tree::Size(2)],
+            index: Tree::Binary(
+                Quotient,
+                &Tree::Binary(Sum, &Tree::Binary(Product, &I, &Tree::Number(2)), &OWN_ROW),
+                &Tree::Number(2),
+            ),
+            tidied: "i0",
+        },
+    },
     InIf {
         start: Start::LocalId(Dimension::X),
         bound: Tree::Number(2),
@@ -967,6 +1038,8 @@ fn text(alloc: Global, index: &Expr) -> Result<String, AllocError> {
         Expr::Size(number) => format!(in alloc; "s{number}"),
         Expr::Id(Dimension::X, IdForm::GroupId) => format!(in alloc; "group"),
         Expr::Id(Dimension::X, IdForm::LocalId) => format!(in alloc; "own"),
+        Expr::Id(Dimension::Y, IdForm::GroupId) => format!(in alloc; "group_down"),
+        Expr::Id(Dimension::Y, IdForm::LocalId) => format!(in alloc; "down"),
         Expr::Binary(op, a, b) => {
             let a = text(alloc, a)?;
             operation_text(alloc, *op, a.as_str(), text(alloc, b)?.as_str())
@@ -1102,16 +1175,16 @@ fn what_is_not_read_stays(rt: HostRuntime) -> Result<(), Fail> {
     assert!(rt; is_read(alloc, Op::Rem, Expr::Size(0), 4)?);
     assert!(rt; !is_read(alloc, Op::And, Expr::Size(0), 4)?);
     assert!(rt; stays_sum(alloc, Expr::Variable(0))?);
-    assert!(rt; stays_sum(alloc, Expr::Id(Dimension::Y, IdForm::LocalId))?);
+    assert!(rt; stays_sum(alloc, Expr::Id(Dimension::Y, IdForm::GlobalId))?);
     Ok(())
 }
 
 // The last loop whose turn has a number, and the next.
 #[test]
 fn turns_have_numbers(rt: HostRuntime) -> Result<(), Fail> {
-    assert!(rt; Turn::Loop(4294967293).number() == Some(4294967295));
-    assert!(rt; Turn::Loop(4294967294).number().is_none());
-    assert!(rt; becomes_plain(rt.alloc(), 4294967293)?);
-    assert!(rt; !becomes_plain(rt.alloc(), 4294967294)?);
+    assert!(rt; Turn::Loop(4294967291).number() == Some(4294967295));
+    assert!(rt; Turn::Loop(4294967292).number().is_none());
+    assert!(rt; becomes_plain(rt.alloc(), 4294967291)?);
+    assert!(rt; !becomes_plain(rt.alloc(), 4294967292)?);
     Ok(())
 }

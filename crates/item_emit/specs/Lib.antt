@@ -3,4 +3,5 @@ pub mod Scopes
 pub mod Parts
 pub mod Copies
 pub mod Inputs
+pub mod Dimensions
 pub mod Nodes

@@ -18,6 +18,7 @@ ghost use Rattle.array_views.specs.Views.{view_in};
 ghost use Rattle.lowering.specs.Terms.{fold_of, kind_of, load_set_of, map_of, term_of};
 ghost use Rattle.item_emit.specs.Blocks.{code_in};
 ghost use Rattle.item_emit.specs.Copies.{HasShortCopies};
+ghost use Rattle.item_emit.specs.Dimensions.{dimension_of};
 ghost use Rattle.item_emit.specs.Inputs.{inputs_in, spell_in};
 ghost use Rattle.item_emit.specs.Scopes.{scope_of};
 
@@ -32,8 +33,9 @@ use crate::expressions::Part;
 use crate::scope::Scope;
 use array_views::View;
 use index_expr::Index;
-use kernel_tree::tree::{Dimension, Expr, Start, Stride};
+use kernel_tree::tree::{self, Expr, Start, Stride};
 use length_spelling::{Turn, spell_length};
+use lift_tree::term::{Dimension, Level};
 use lift_tree::ty::Ty;
 use lowering::term::{Fold, Kind, Map, Space, Term};
 use std::alloc::{AllocError, Global};
@@ -94,24 +96,36 @@ impl<'s> Site<'s> {
     }
 }
 
+// The device's dimension.
+fn along(dimension: Dimension) -> tree::Dimension
+    ensures { result ≡ dimension_of dimension }
+{
+    match dimension {
+        Dimension::X => tree::Dimension::X,
+        Dimension::Y => tree::Dimension::Y,
+    }
+}
+
+// Where an item's turns of a map of this kind begin.
 fn start_of(kind: Kind) -> Start
     ensures { tree.start_of result ≡ form.start_of (kind_of kind) }
 {
     match kind {
-        Kind::Global => Start::GlobalId(Dimension::X),
-        Kind::WorkGroup => Start::GroupId(Dimension::X),
-        Kind::Local => Start::LocalId(Dimension::X),
+        Kind::Over(Level::Launch, dimension) => Start::GlobalId(along(dimension)),
+        Kind::Over(Level::Groups, dimension) => Start::GroupId(along(dimension)),
+        Kind::Over(Level::Items, dimension) => Start::LocalId(along(dimension)),
         Kind::Sequential => Start::Zero,
     }
 }
 
+// How far they are from one another.
 fn stride_of(kind: Kind) -> Stride
     ensures { tree.stride_of result ≡ form.stride_of (kind_of kind) }
 {
     match kind {
-        Kind::Global => Stride::GlobalSize(Dimension::X),
-        Kind::WorkGroup => Stride::GroupCount(Dimension::X),
-        Kind::Local => Stride::LocalSize(Dimension::X),
+        Kind::Over(Level::Launch, dimension) => Stride::GlobalSize(along(dimension)),
+        Kind::Over(Level::Groups, dimension) => Stride::GroupCount(along(dimension)),
+        Kind::Over(Level::Items, dimension) => Stride::LocalSize(along(dimension)),
         Kind::Sequential => Stride::One,
     }
 }

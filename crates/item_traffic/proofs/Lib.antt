@@ -2,3 +2,5 @@
 pub mod Turns
 pub mod Held
 pub mod Written
+pub mod Places
+pub mod SameTraffic

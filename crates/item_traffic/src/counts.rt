@@ -19,6 +19,7 @@ use crate::access::Access;
 use crate::region::{Part, Region, Scope, Way, region_of};
 use kernel_tree::launches::Launch;
 use launch_lengths::length_of;
+use lift_tree::term::{Dimension, Level};
 use lift_tree::ty::Ty;
 use lowering::term::{Fold, Kind, LoadSet, Map, Term};
 use size_arith::{Name, Poly};
@@ -47,12 +48,19 @@ fn turns_of(launch: &Launch, item: u32, kind: Kind, length: u32) -> u64
     requires within { item < item_count launch.now }
     ensures { result ≡ spec.turns_of (ids_of launch.now item) (kind_of kind) length }
 {
-    let (global, local) = (launch.global.0, launch.local.0);
-    let column = item % global;
+    let (global, local) = (launch.global, launch.local);
+    let (column, row) = (item % global.0, item / global.0);
     match kind {
-        Kind::Global => turns_below(column, length, global),
-        Kind::WorkGroup => turns_below(column / local, length, global / local),
-        Kind::Local => turns_below(column % local, length, local),
+        Kind::Over(Level::Launch, Dimension::X) => turns_below(column, length, global.0),
+        Kind::Over(Level::Launch, Dimension::Y) => turns_below(row, length, global.1),
+        Kind::Over(Level::Groups, Dimension::X) => {
+            turns_below(column / local.0, length, global.0 / local.0)
+        }
+        Kind::Over(Level::Groups, Dimension::Y) => {
+            turns_below(row / local.1, length, global.1 / local.1)
+        }
+        Kind::Over(Level::Items, Dimension::X) => turns_below(column % local.0, length, local.0),
+        Kind::Over(Level::Items, Dimension::Y) => turns_below(row % local.1, length, local.1),
         Kind::Sequential => turns_below(0, length, 1),
     }
 }

@@ -4,5 +4,6 @@
 #![tactic(auto)]
 
 pub mod access;
+pub mod alike;
 pub mod counts;
 pub mod region;

@@ -29,7 +29,10 @@ use Rattle.barrier_placement.specs.Fencing.{Fencing, Open, fence}
 use Rattle.barrier_placement.specs.Needed.{Needed}
 use Rattle.group_form.specs.ChosenForms.{forms_of}
 use Rattle.group_form.specs.Form.{is_once}
-use Rattle.group_form.specs.Kernels.{AreNeededBy, Printer, OfItems, OfGroups}
+use Rattle.group_form.specs.GridChosen.{grid_forms_of}
+use Rattle.group_form.specs.GridTerms.{grid_touches}
+use Rattle.group_form.specs.GridTheorem.{grid_phase_count, is_once_over}
+use Rattle.group_form.specs.Kernels.{AreNeededBy, Printer, OfItems, OfGroups, OfGrids}
 use Rattle.group_form.specs.Uses.{group_touches, phase_count}
 use Rattle.printed_form.specs.Counts.{copy_lengths}
 use Rattle.printed_form.specs.Programs.{lowered_root}
@@ -41,7 +44,7 @@ use Rattle.item_emit.specs.Copies.{HasShortCopies}
 use Rattle.phase_plan.specs.Planned.{IsKindOf}
 use Rattle.phase_plan.specs.declared.phases.Phases.{Phases}
 use Rattle.phase_plan.specs.declared.kind.Kind.{Kind}
-use Rattle.phase_plan.specs.declared.kind.Kind.TheVariants.{Task, OverLaunch, OverGroups}
+use Rattle.phase_plan.specs.declared.kind.Kind.TheVariants.{Task, OverLaunch, OverGroups, OverGrid}
 use Rattle.kernel_emit.specs.Plain.{IsPlainFor}
 use Rattle.kernel_emit.specs.Plans.{printed_with}
 
@@ -80,7 +83,7 @@ pub record Known : Type 0 where
 
 -- what is printed is of the grammar, with few arrays and short copies, and made by
 -- the printer of the term's kind
-pub record IsPrintedWell (d : Declared) (local : Option ℕ) (t : Tree) (n : Annotation) (ls ps : List ℕ) (root : Lowered) (kind : Kind) : Type 0 where
+pub record IsPrintedWell (d : Declared) (local : Option (ℕ × ℕ)) (t : Tree) (n : Annotation) (ls ps : List ℕ) (root : Lowered) (kind : Kind) : Type 0 where
   pub grammar : is_kernel (printed_with d local n ls ps root kind) ≡ true
   pub copies : HasShortCopies root
   pub locals : length ls < 2 ^ 32
@@ -88,16 +91,19 @@ pub record IsPrintedWell (d : Declared) (local : Option ℕ) (t : Tree) (n : Ann
   pub plain : IsPlainFor d local t n (printed_with d local n ls ps root kind)
 
 -- made by this printer, with the barriers that it needs
-abbrev IsPlainBy : Printer → Declared → (local : Option ℕ) → Tree → Annotation → Kernel → Type 0
+abbrev IsPlainBy : Printer → Declared → (local : Option (ℕ × ℕ)) → Tree → Annotation → Kernel → Type 0
 IsPlainBy p d local t n k = (fence : ℕ → Fencing) × AreNeededBy p d local fence t n × (k ≡ kernel_for p d local fence t n)
 
-module _ (d : Declared) (local : Option ℕ) (t : Tree) (n : Annotation) (locals privates : List ℕ) (root : Lowered) (l : locals ≡ copy_lengths LocalMemory (lowered_root d.names t n)) (p : privates ≡ copy_lengths PrivateMemory (lowered_root d.names t n)) (r : root ≡ lowered_root d.names t n) where
+module _ (d : Declared) (local : Option (ℕ × ℕ)) (t : Tree) (n : Annotation) (locals privates : List ℕ) (root : Lowered) (l : locals ≡ copy_lengths LocalMemory (lowered_root d.names t n)) (p : privates ≡ copy_lengths PrivateMemory (lowered_root d.names t n)) (r : root ≡ lowered_root d.names t n) where
   -- of these arrays, and of what the term is lowered to, the printers make this
   by_items : (fence : ℕ → Fencing) → printed_with d local n locals privates root Task ≡ kernel_for OfItems d local fence t n
   by_items fence = rw (l, p, r) refl
 
   by_groups : (phases : Phases) → phases.count ≡ phase_count root → printed_with d local n locals privates root (OverGroups phases) ≡ kernel_for OfGroups d local (fence (phase_count (lowered_root d.names t n)) phases.barriers.items) t n
   by_groups phases c = rw (l, p, c, r) refl
+
+  by_grids : (phases : Phases) → phases.count ≡ grid_phase_count root → printed_with d local n locals privates root (OverGrid phases) ≡ kernel_for OfGrids d local (fence (grid_phase_count (lowered_root d.names t n)) phases.barriers.items) t n
+  by_grids phases c = rw (l, p, c, r) refl
 
   by_kind : (kind : NestKind) (k : Kernel) → nest_kind t ≡ kind → IsPlainBy (printer_of kind) d local t n k → IsPlainFor d local t n k
   by_kind kind k is made = subst (λ (j : NestKind). IsPlainBy (printer_of j) d local t n k) (sym is) made
@@ -111,8 +117,13 @@ module _ (d : Declared) (local : Option ℕ) (t : Tree) (n : Annotation) (locals
       let fences = fence (phase_count (lowered_root d.names t n)) barriers in
       let needed : AreNeededBy OfGroups d local fences t n = subst (λ (x : Lowered). Needed (group_touches x) (is_once (forms_of d.names local) x) (phase_count x) (fence (phase_count x) barriers)) r told.1.needed in
       by_kind _ _ told.0 (fences, needed, by_groups phases told.1.count)
+  made_plain (OverGrid phases) told =
+      let barriers = phases.barriers.items in
+      let fences = fence (grid_phase_count (lowered_root d.names t n)) barriers in
+      let needed : AreNeededBy OfGrids d local fences t n = subst (λ (x : Lowered). Needed (grid_touches x) (is_once_over (grid_forms_of d.names local) x) (grid_phase_count x) (fence (grid_phase_count x) barriers)) r told.1.needed in
+      by_kind _ _ told.0 (fences, needed, by_grids phases told.1.count)
 
-module _ (known : Known) (d : Declared) (local : Option ℕ) (t : Tree) (n : Annotation) (typed : IsSoundTerm d t n) (sized : IsLocalSize local) (nest_legal : IsLegalNest t n) (within : passed_limit t n ≡ None) where
+module _ (known : Known) (d : Declared) (local : Option (ℕ × ℕ)) (t : Tree) (n : Annotation) (typed : IsSoundTerm d t n) (sized : IsLocalSize local) (nest_legal : IsLegalNest t n) (within : passed_limit t n ≡ None) where
   legal : IsLegalTerm d t n
   legal = legal_term d t n typed nest_legal
 

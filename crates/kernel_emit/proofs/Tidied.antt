@@ -1,5 +1,5 @@
 -- A kernel that is printed for a term is the term's with tidy indices and bounds.
-use Rattle.std.proofs.Common.{◌≡◌, List, ℕ, Option, true, refl, subst, sym, arith}
+use Rattle.std.proofs.Common.{◌≡◌, List, ℕ, Option, true, refl, subst, sym}
 use Rattle.size_arith.specs.Ranges.{AreNames}
 use Rattle.lift_tree.specs.Annotations.{Annotation, type_in}
 use Rattle.lift_tree.specs.Launches.{Asks}
@@ -11,9 +11,9 @@ use Rattle.kernel_tree.specs.Launch.{Launch}
 use Rattle.lowered_tree.specs.Kinds.{asks_of}
 use Rattle.barrier_placement.specs.Fencing.{Fencing}
 use Rattle.nest_premises.specs.Printable.{IsPrintable, printer_for}
-use Rattle.group_form.specs.Kernels.{AreNeededBy, KernelsKeep, KernelsServe, KernelsStart, Printer, OfItems, OfGroups}
-use Rattle.printed_form.specs.Programs.{IsLaunchOf, row_of}
-use Rattle.printed_form.proofs.Programs.{has_local, whole}
+use Rattle.group_form.specs.Kernels.{AreNeededBy, KernelsKeep, KernelsServe, KernelsStart, Printer, OfItems, OfGroups, OfGrids}
+use Rattle.printed_form.specs.Programs.{IsLaunchOf}
+use Rattle.printed_form.proofs.Programs.{has_local, some_items, whole}
 use Rattle.kernel_premises.specs.Terms.{TermsArePrinted, kernel_for}
 use Rattle.tidy_indices.specs.Laws.{IsLaunchFor, KeepsValues, TidyFormulasKeepValues}
 use Rattle.tidy_indices.specs.Tidy.{tidy_formula}
@@ -23,25 +23,26 @@ use Rattle.tidy_printed.specs.TidyLaws.{TidiedTermsAreTidy, TidyFormulasMakeTidy
 use Rattle.kernel_emit.specs.Kernels.{HasParameters, IsKernelFor, IsWithinMemory, PrintsAtAll}
 use Rattle.kernel_emit.specs.Plain.{IsPlainFor}
 
-abbrev tidy_of : Declared → Option ℕ → Kernel → Kernel
-tidy_of d local k = tidied_kernel (tidy_formula d.names (row_of local)) k
+abbrev tidy_of : Declared → Option (ℕ × ℕ) → Kernel → Kernel
+tidy_of d local k = tidied_kernel (tidy_formula d.names local) k
 
 -- an admissible launch is one of a kernel that asks for groups of the size that is fixed
-launch_for : (d : Declared) (asks : Asks) (bases : List ℕ) (l : Launch) → IsLaunchOf d asks bases l → IsLaunchFor (row_of asks.local) l
-launch_for d asks bases l at = record {
-  whole = whole l asks d.names bases at.flat at.admissible;
-  size = has_local asks.local l at.flat at.admissible.fixed;
-  some = let least = at.admissible.global_least in omega arith;
-  few = let most = at.admissible.global_most in omega arith;
+launch_for : (d : Declared) (asks : Asks) (bases : List ℕ) (t : Tree) (n : Annotation) (l : Launch) → IsLaunchOf d asks bases t n l → IsLaunchFor asks.local l
+launch_for d asks bases t n l at = record {
+  whole = whole l asks d.names bases at.admissible;
+  size = has_local asks.local l at.admissible.fixed;
+  some = some_items l.global.0 l.global.1 at.admissible.global_least.0 at.admissible.global_least.1;
+  few = at.admissible.global_most;
 }
 
-keeps_at : TidyFormulasKeepValues → (d : Declared) (asks : Asks) (bases : List ℕ) (l : Launch) → AreNames d.names → IsLaunchOf d asks bases l → KeepsValues (tidy_formula d.names (row_of asks.local)) l
-keeps_at values d asks bases l names at = values d.names bases (row_of asks.local) l names at.admissible.sizes at.sizes (launch_for d asks bases l at)
+keeps_at : TidyFormulasKeepValues → (d : Declared) (asks : Asks) (bases : List ℕ) (t : Tree) (n : Annotation) (l : Launch) → AreNames d.names → IsLaunchOf d asks bases t n l → KeepsValues (tidy_formula d.names asks.local) l
+keeps_at values d asks bases t n l names at = values d.names bases asks.local l names at.admissible.sizes at.sizes (launch_for d asks bases t n l at)
 
--- either printer gives a kernel the term's parameters
-has_parameters : (p : Printer) (d : Declared) (local : Option ℕ) (fence : ℕ → Fencing) (t : Tree) (n : Annotation) → HasParameters d (type_in n) (tidy_of d local (kernel_for p d local fence t n))
+-- each printer gives a kernel the term's parameters
+has_parameters : (p : Printer) (d : Declared) (local : Option (ℕ × ℕ)) (fence : ℕ → Fencing) (t : Tree) (n : Annotation) → HasParameters d (type_in n) (tidy_of d local (kernel_for p d local fence t n))
 has_parameters OfItems d local fence t n = record { inputs = refl; outputs = refl; sizes = refl }
 has_parameters OfGroups d local fence t n = record { inputs = refl; outputs = refl; sizes = refl }
+has_parameters OfGrids d local fence t n = record { inputs = refl; outputs = refl; sizes = refl }
 
 -- what is known of printed kernels
 pub record Laws : Type 0 where
@@ -54,14 +55,14 @@ pub record Laws : Type 0 where
   pub values : TidyFormulasKeepValues
   pub makes : TidyFormulasMakeTidy
 
-module _ (laws : Laws) (d : Declared) (local : Option ℕ) (t : Tree) (n : Annotation) (names : AreNames d.names) (printable : IsPrintable (printer_for t) d t n) where
+module _ (laws : Laws) (d : Declared) (local : Option (ℕ × ℕ)) (t : Tree) (n : Annotation) (names : AreNames d.names) (printable : IsPrintable (printer_for t) d t n) where
   module _ (fence : ℕ → Fencing) (needed : AreNeededBy (printer_for t) d local fence t n) where
     abbrev plain : Kernel
     plain = kernel_for (printer_for t) d local fence t n
 
     prints : PrintsAtAll d local t n (tidy_of d local plain)
     prints bases l at =
-        laws.tidied (printer_for t) d local bases t n l (tidy_formula d.names (row_of local)) plain (keeps_at laws.values d (asks_of local t) bases l names at)
+        laws.tidied (printer_for t) d local bases t n l (tidy_formula d.names local) plain (keeps_at laws.values d (asks_of local t) bases t n l names at)
         (laws.printed (printer_for t) d local bases fence t n l printable at needed)
 
     own : IsWithinMemory plain → is_kernel plain ≡ true → IsKernelFor d local t n (tidy_of d local plain)
@@ -70,7 +71,7 @@ module _ (laws : Laws) (d : Declared) (local : Option ℕ) (t : Tree) (n : Annot
       starts = λ w l c ok at cells. laws.start (printer_for t) d (asks_of local t) w t n l (tidy_of d local plain) c (printable.can.lowerable w.bases ok.bases) (printable.at_launch local w.bases l at) ok at cells (prints w.bases l at);
       keeps = λ w l c ok at cells. laws.keep (printer_for t) d (asks_of local t) w t n l (tidy_of d local plain) c (printable.can.lowerable w.bases ok.bases) (printable.at_launch local w.bases l at) ok at cells (prints w.bases l at);
       serve = λ w l c ok at cells. laws.serve (printer_for t) d (asks_of local t) w t n l (tidy_of d local plain) c (printable.can.lowerable w.bases ok.bases) (printable.at_launch local w.bases l at) ok at cells (prints w.bases l at);
-      tidy = laws.tidy (printer_for t) d local fence t n (tidy_formula d.names (row_of local)) names printable.stands grammar (laws.makes d.names (row_of local));
+      tidy = laws.tidy (printer_for t) d local fence t n (tidy_formula d.names local) names printable.stands grammar (laws.makes d.names local);
       parameters = has_parameters (printer_for t) d local fence t n;
       memory = record { local_bytes = small.local_bytes; private_cells = small.private_cells };
     }

@@ -22,37 +22,37 @@ use Rattle.tidy_printed.specs.Tidy.{IsTidyFor}
 
 -- at each admissible launch, of groups of the local size that is fixed, the kernel is printed for
 -- the term, by the printer of its kind
-abbrev pub PrintsAtAll : Declared → (local : Option ℕ) → Tree → Annotation → Kernel → Type 0
+abbrev pub PrintsAtAll : Declared → (local : Option (ℕ × ℕ)) → Tree → Annotation → Kernel → Type 0
 PrintsAtAll d local t n k =
-    (bases : List ℕ) (l : Launch) → IsLaunchOf d (asks_of local t) bases l
+    (bases : List ℕ) (l : Launch) → IsLaunchOf d (asks_of local t) bases t n l
     → PrintsBy (printer_for t) d local bases t n l k
 
 -- it may be started there
-abbrev pub StartsTerm : Declared → (local : Option ℕ) → Tree → Annotation → Kernel → Type 0
+abbrev pub StartsTerm : Declared → (local : Option (ℕ × ℕ)) → Tree → Annotation → Kernel → Type 0
 StartsTerm d local t n k =
     (w : World) (l : Launch) (c : Cells) → IsAdmissible d w
-    → IsLaunchOf d (asks_of local t) w.bases l → AreBuffersOf d w t n c → MayStart k l c
+    → IsLaunchOf d (asks_of local t) w.bases t n l → AreBuffersOf d w t n c → MayStart k l c
 
 -- and every run there keeps what a kernel owes, with the term's value
-abbrev pub KeepsTerm : Declared → (local : Option ℕ) → Tree → Annotation → Kernel → Type 0
+abbrev pub KeepsTerm : Declared → (local : Option (ℕ × ℕ)) → Tree → Annotation → Kernel → Type 0
 KeepsTerm d local t n k =
     (w : World) (l : Launch) (c : Cells) → IsAdmissible d w
-    → IsLaunchOf d (asks_of local t) w.bases l → AreBuffersOf d w t n c
+    → IsLaunchOf d (asks_of local t) w.bases t n l → AreBuffersOf d w t n c
     → EveryRunKeeps k l c (cell_owner d.names w.bases l t n) (lists_of (type_in n) (meaning w [] t))
 
 -- and its barriers serve in every run there: the items of a group meet the same barriers with the
 -- same turn numbers, and between two releases with the local flag each cell of a local array that
 -- is written is one item's
-abbrev pub ServesTerm : Declared → (local : Option ℕ) → Tree → Annotation → Kernel → Type 0
+abbrev pub ServesTerm : Declared → (local : Option (ℕ × ℕ)) → Tree → Annotation → Kernel → Type 0
 ServesTerm d local t n k =
     (w : World) (l : Launch) (c : Cells) → IsAdmissible d w
-    → IsLaunchOf d (asks_of local t) w.bases l → AreBuffersOf d w t n c
+    → IsLaunchOf d (asks_of local t) w.bases t n l → AreBuffersOf d w t n c
     → (filler : Cell → ℕ) × BarriersServeAll k l c filler
 
 -- no part of an index or of a bound is redundant, an index of a load or a store has no more nodes
 -- than the formulas of its array and of the term's layouts put into one another, and a bound no
 -- more than its length, with lengths counted in short
-abbrev pub IsTidy : Declared → (local : Option ℕ) → Tree → Annotation → Kernel → Type 0
+abbrev pub IsTidy : Declared → (local : Option (ℕ × ℕ)) → Tree → Annotation → Kernel → Type 0
 IsTidy = IsTidyFor
 
 -- the parameters: a buffer for each component of the inputs, one for each
@@ -70,7 +70,7 @@ pub record IsWithinMemory (k : Kernel) : Type 0 where
 
 -- the kernel is the term's: printed for it, with its value, barriers that
 -- serve and its parameters, and tidy
-pub record IsKernelFor (d : Declared) (local : Option ℕ) (t : Tree) (n : Annotation)
+pub record IsKernelFor (d : Declared) (local : Option (ℕ × ℕ)) (t : Tree) (n : Annotation)
     (k : Kernel) : Type 0 where
   pub prints : PrintsAtAll d local t n k
   pub starts : StartsTerm d local t n k

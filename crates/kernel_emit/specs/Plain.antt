@@ -10,7 +10,7 @@ use Rattle.nest_premises.specs.Printable.{printer_for}
 use Rattle.kernel_premises.specs.Terms.{kernel_for}
 
 -- made by the printer of the term's kind, with the barriers that it needs
-abbrev pub IsPlainFor : Declared → (local : Option ℕ) → Tree → Annotation → Kernel → Type 0
+abbrev pub IsPlainFor : Declared → (local : Option (ℕ × ℕ)) → Tree → Annotation → Kernel → Type 0
 IsPlainFor d local t n k =
     (fence : ℕ → Fencing) × AreNeededBy (printer_for t) d local fence t n
     × (k ≡ kernel_for (printer_for t) d local fence t n)

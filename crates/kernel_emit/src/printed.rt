@@ -7,11 +7,13 @@ ghost use Rattle.kernel_tree.specs.Tree.{code_then};
 ghost use Rattle.lift_tree.specs.Annotations.{type_in};
 ghost use Rattle.lowering.specs.Terms.{term_of};
 ghost use Rattle.item_emit.specs.Copies.{HasShortCopies};
+ghost use Rattle.barrier_placement.specs.Fencing.{fence};
+ghost use Rattle.group_emit.specs.Settings.{fence_in};
 ghost use Rattle.kernel_emit.specs.Emittable.{IsEmittable};
 ghost use Rattle.kernel_emit.specs.Plans.{code_for, printed_for};
 ghost use Rattle.phase_plan.specs.Plans.{declared_in, local_in, types_in};
-ghost use Rattle.printed_form.specs.Programs.{row_of};
 
+use grid_emit::kernel as grids;
 use group_emit::kernel as groups;
 use group_emit::setting::Setting;
 use item_emit::arguments::Declared;
@@ -19,8 +21,27 @@ use item_emit::kernel as items;
 use item_emit::kernel::counted;
 use kernel_tree::tree::{Kernel, Stmt};
 use phase_plan::kind::Kind;
+use phase_plan::phases::Phases;
 use phase_plan::planned::Plan;
 use std::alloc::{AllocError, Global};
+
+// What a map over work-groups is printed with, in these phases.
+fn setting_in<'p>(
+    declared: Declared<'p>,
+    phases: &'p Phases,
+    local: Option<(u32, u32)>,
+) -> Setting<'p>
+    ensures declared { result.declared ≡ declared.entry }
+    ensures local { result.local ≡ local }
+    ensures fence { fence_in result ≡ fence phases.now.count phases.now.barriers.items }
+{
+    Setting {
+        declared,
+        barriers: &phases.barriers,
+        phases: phases.count,
+        local,
+    }
+}
 
 // The statements, as the plan's kind says.
 fn statements(alloc: Global, plan: &Plan<'_>) -> Result<Vec<Stmt>, AllocError>
@@ -33,18 +54,18 @@ fn statements(alloc: Global, plan: &Plan<'_>) -> Result<Vec<Stmt>, AllocError>
         names: &lowered.names,
         inputs: &lowered.inputs,
     };
+    let local = plan.spaced.mapped.local;
     match &plan.kind {
         Kind::Task | Kind::OverLaunch => {
             items::statements(alloc, &declared, &plan.root, lowered.types.own_type())
         }
         Kind::OverGroups(phases) => {
-            let setting = Setting {
-                declared,
-                barriers: &phases.barriers,
-                phases: phases.count,
-                local: plan.spaced.mapped.local,
-            };
+            let setting = setting_in(declared, phases, local);
             groups::statements(alloc, &setting, &plan.root, lowered.types.own_type())
+        }
+        Kind::OverGrid(phases) => {
+            let setting = setting_in(declared, phases, local);
+            grids::statements(alloc, &setting, &plan.root, lowered.types.own_type())
         }
     }
 }
@@ -60,16 +81,6 @@ fn words(alloc: Global, lengths: &[u64]) -> Result<Vec<u32>, AllocError>
         words.push(*length as u32)?;
     }
     Ok(words)
-}
-
-// Groups of a fixed size, along the row.
-fn row(local: Option<u32>) -> Option<(u32, u32)>
-    ensures { result ≡ row_of local }
-{
-    match local {
-        Some(size) => Some((size, 1)),
-        None => None,
-    }
 }
 
 /// The kernel that is printed for a plan: for each component of each input a parameter, then for
@@ -91,7 +102,7 @@ pub fn printed(alloc: Global, plan: &Plan<'_>) -> Result<Kernel, AllocError>
         privates,
         variables: counts.variables,
         vectors: 0,
-        local: row(plan.spaced.mapped.local),
+        local: plan.spaced.mapped.local,
         body,
     })
 }

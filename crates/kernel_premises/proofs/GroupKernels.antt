@@ -19,7 +19,8 @@ use Rattle.group_form.specs.Theorem.{LocalArraysAreCounted}
 use Rattle.group_form.specs.Uses.{phase_count}
 use Rattle.group_form.specs.Printer.{printed_group_kernel}
 use Rattle.kernel_premises.specs.GroupGrammar.{GroupKernelsAreOfTheGrammar}
-use Rattle.kernel_premises.proofs.GroupCodes.{locals_of, Pieces, groups_come, groups_fine}
+use Rattle.kernel_premises.proofs.MapCodes.{Pieces}
+use Rattle.kernel_premises.proofs.GroupCodes.{locals_of, groups_come, groups_fine}
 
 -- as many local arrays are declared as a turn has
 enough_locals : {A : Type 0} → LocalArraysAreCounted A → (t : Term A) → StandsOverGroups t → locals_of t ≤ length (copy_lengths LocalMemory t)
@@ -29,7 +30,8 @@ enough_locals counted (Map WorkGroup n loads xs b) st = let e = length-append (c
 enough_locals counted _ st = absurd st
 
 pub group_kernels_are_of_the_grammar : ViewsStayWithin → MapsAreOfTheGrammar → TermsArePrintedWithin → LocalArraysAreCounted (List Monomial) → GroupKernelsAreOfTheGrammar
-group_kernels_are_of_the_grammar stay maps printed counted spell fence S M d local t a h =
+group_kernels_are_of_the_grammar stay maps printed counted spell fence S M d local t a stands =
+    let h = stands.1 in
     let k = printed_group_kernel spell fence d local t a in
     let forms = forms_of d.names local in
     let r = lowered_root d.names t a in
@@ -38,6 +40,8 @@ group_kernels_are_of_the_grammar stay maps printed counted spell fence S M d loc
     let room : HasRoomFor k S M d = record { some = h.some; fits = h.fits; inputs = refl } in
     let known : Pieces k spell S M d = record { room = room; views = stay k S h.some; maps = maps k S h.some (let f = h.fits in omega arith); terms = printed k spell S M d room } in
     let private = privates.counted r in
-    known.terms.kernel ty r refl refl refl h.sound (is_size local h.size) (groups_come k spell forms S M d known fence (phase_count r) h.flagged no_view r w h.stands)
-    (groups_fine k spell forms S M d known fence (phase_count r) h.flagged (λ v. 0) no_view r w 0 (λ v. known.views.blank 0 0) (known.terms.output ty refl h.lengths h.few) h.stands h.written h.sound h.layouts h.low h.loops
-    (omega arith) (omega arith) (enough_locals counted r h.stands) (omega arith))
+    let loops = h.loops in
+    known.terms.kernel ty r refl refl refl h.sound (is_size local h.size) (groups_come k spell forms S M d known fence (phase_count r) h.flagged no_view r w stands.0)
+    (groups_fine k spell forms S M d known fence (phase_count r) h.flagged (λ v. 0) no_view r w 0 (λ v. known.views.blank 0 0) (known.terms.output ty refl h.lengths h.few) stands.0
+    (record { written = h.written; sound = h.sound; layouts = h.layouts; low = h.low; deep = omega arith; variables = omega arith; privates = omega arith })
+    (enough_locals counted r stands.0) (omega arith))

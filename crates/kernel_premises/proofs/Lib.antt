@@ -10,6 +10,9 @@ pub mod Types
 pub mod Parts
 pub mod LegalTerms
 pub mod Flags
+pub mod MapCodes
+pub mod GridCodes
+pub mod GridKernels
 pub mod GroupCodes
 pub mod GroupKernels
 pub mod InGrammar

@@ -1,11 +1,13 @@
 -- What a printer prints can be written.
 use Rattle.std.proofs.Common.{true, false, inl, inr}
-use Rattle.lift_ir.specs.Forms.{Stands, StandsOverLaunch}
+use Rattle.lift_ir.specs.Forms.{Stands, StandsAlongRow, StandsOverLaunch}
 use Rattle.lift_ir.specs.Lowering.{Lowered}
-use Rattle.lift_ir.specs.Terms.{Both, Bound, Copy, Fold, Global, LetArray, LetElement, Local, LocalMemory, Map, PrivateMemory, Project, Reshape, Sequential, Source, Store, WorkGroup}
+use Rattle.lift_ir.specs.Terms.{Both, Bound, Copy, Fold, Global, GlobalRows, LetArray, LetElement, Local, LocalMemory, LocalRows, Map, PrivateMemory, Project, Reshape, Sequential, Source, Store, WorkGroup, WorkGroupRows}
 use Rattle.printed_form.specs.Sound.{CanBeRead, CanBeWritten}
 use Rattle.group_form.specs.Forms.{IsOfInputs, StandsInGroup, StandsOverGroups}
-use Rattle.group_form.specs.Kernels.{OfGroups, OfItems}
+use Rattle.group_form.specs.GridTerms as grid
+use Rattle.group_form.specs.GridTerms.{StandsAlongGroups, StandsInGrid, StandsOverGrid}
+use Rattle.group_form.specs.Kernels.{OfGrids, OfGroups, OfItems}
 use Rattle.kernel_premises.specs.Within.{TermsCanBeWritten}
 
 -- ---- by one work-item
@@ -29,10 +31,16 @@ mutual
   item_read _ s = tt
 
 -- ---- over the launch
+along_written : (t : Lowered) → StandsAlongRow t → CanBeWritten t
+along_written (Reshape l x) s = (s.0, along_written x s.1)
+along_written (Map Global n ls xs b) s = (item_read xs s.0, item_written b s.1)
+along_written _ s = absurd s
+
 launch_written : (t : Lowered) → StandsOverLaunch t → CanBeWritten t
 launch_written (Reshape l x) s = (s.0, launch_written x s.1)
 launch_written (LetArray v b) s = (item_read v s.0, launch_written b s.1)
 launch_written (Map Global n ls xs b) s = (item_read xs s.0, item_written b s.1)
+launch_written (Map GlobalRows n ls xs b) s = (item_read xs s.0, along_written b s.1)
 launch_written _ s = absurd s
 
 -- ---- over work-groups
@@ -68,7 +76,42 @@ groups_written (LetArray v b) s = (inputs_read v s.0, groups_written b s.1)
 groups_written (Map WorkGroup n ls xs b) s = (inputs_read xs s.0, written_in_group b s.1)
 groups_written _ s = absurd s
 
+-- ---- over work-groups in two dimensions
+row_written : (t : Lowered) → grid.StandsAlongRow t → CanBeWritten t
+row_written (Reshape l x) s = (s.0, row_written x s.1)
+row_written (Map Local n ls xs b) s = (inputs_read xs s.0, item_written b s.1)
+row_written _ s = absurd s
+
+mutual
+  written_in_grid : (t : Lowered) → StandsInGrid true t → CanBeWritten t
+  written_in_grid (Reshape l x) s = (s.0, written_in_grid x s.1)
+  written_in_grid (LetArray v b) s = (read_in_grid v s.0, written_in_grid b s.1)
+  written_in_grid (Map LocalRows n ls xs b) s = (read_in_grid xs s.0, row_written b s.1)
+  written_in_grid _ s = absurd s
+
+  read_in_grid : (t : Lowered) → StandsInGrid false t → CanBeRead t
+  read_in_grid (Bound v) s = tt
+  read_in_grid (Source i) s = tt
+  read_in_grid (Both true x y) s = (read_in_grid x s.0, read_in_grid y s.1)
+  read_in_grid (Project d x) s = read_in_grid x s
+  read_in_grid (Reshape l x) s = read_in_grid x s
+  read_in_grid (LetArray v b) s = (read_in_grid v s.0, read_in_grid b s.1)
+  read_in_grid (Copy LocalMemory ty x) s = written_in_grid x s
+  read_in_grid _ s = absurd s
+
+along_groups_written : (t : Lowered) → StandsAlongGroups t → CanBeWritten t
+along_groups_written (Reshape l x) s = (s.0, along_groups_written x s.1)
+along_groups_written (Map WorkGroup n ls xs b) s = (inputs_read xs s.0, written_in_grid b s.1)
+along_groups_written _ s = absurd s
+
+grid_written : (t : Lowered) → StandsOverGrid t → CanBeWritten t
+grid_written (Reshape l x) s = (s.0, grid_written x s.1)
+grid_written (LetArray v b) s = (inputs_read v s.0, grid_written b s.1)
+grid_written (Map WorkGroupRows n ls xs b) s = (inputs_read xs s.0, along_groups_written b s.1)
+grid_written _ s = absurd s
+
 pub terms_can_be_written : TermsCanBeWritten
 terms_can_be_written OfItems t (inl s) = item_written t s
 terms_can_be_written OfItems t (inr s) = launch_written t s
 terms_can_be_written OfGroups t s = groups_written t s
+terms_can_be_written OfGrids t s = grid_written t s

@@ -20,7 +20,7 @@ use Rattle.length_spelling.specs.Formulas.{length_formula}
 use Rattle.kernel_premises.specs.Sound.{HasSoundParts, HasSpelledParts}
 
 -- the kernel that a typed term is printed as, where this local size is fixed, with these barriers
-abbrev pub kernel_for : Printer → Declared → (local : Option ℕ) → (fence : ℕ → Fencing) → Tree
+abbrev pub kernel_for : Printer → Declared → (local : Option (ℕ × ℕ)) → (fence : ℕ → Fencing) → Tree
     → Annotation → Kernel
 kernel_for p d local fence t n = kernel_by p (length_formula d.names) fence d local t n
 
@@ -41,7 +41,7 @@ SoundPartsAreSpelled =
 -- needed barriers, for groups of a size that can be fixed, as a kernel of the kernel grammar
 abbrev pub KernelsAreInTheGrammar : Type 0
 KernelsAreInTheGrammar =
-    (p : Printer) (d : Declared) (local : Option ℕ) (fence : ℕ → Fencing) (t : Tree)
+    (p : Printer) (d : Declared) (local : Option (ℕ × ℕ)) (fence : ℕ → Fencing) (t : Tree)
     (n : Annotation)
     → IsLocalSize local → IsLegalTerm d t n → IsPrintable p d t n → AreNeededBy p d local fence t n
     → layouts t n ≤ 24 → height t ≤ 512
@@ -50,8 +50,8 @@ KernelsAreInTheGrammar =
 -- it is printed for the term, at each admissible launch
 abbrev pub TermsArePrinted : Type 0
 TermsArePrinted =
-    (p : Printer) (d : Declared) (local : Option ℕ) (bases : List ℕ) (fence : ℕ → Fencing)
+    (p : Printer) (d : Declared) (local : Option (ℕ × ℕ)) (bases : List ℕ) (fence : ℕ → Fencing)
     (t : Tree) (n : Annotation) (l : Launch)
-    → IsPrintable p d t n → IsLaunchOf d (asks_of local t) bases l
+    → IsPrintable p d t n → IsLaunchOf d (asks_of local t) bases t n l
     → AreNeededBy p d local fence t n
     → PrintsBy p d local bases t n l (kernel_for p d local fence t n)

@@ -1,6 +1,6 @@
 //! Laws of kernels printed for maps over work-groups, each carried by a function that does nothing.
 
-ghost use Rattle.kernel_premises.specs.GroupGrammar.{GroupKernelsAreOfTheGrammar, NeededAreFlagged};
+ghost use Rattle.kernel_premises.specs.GroupGrammar.{GridKernelsAreOfTheGrammar, GroupKernelsAreOfTheGrammar, NeededAreFlagged};
 
 use group_form::laws::local_arrays_are_counted;
 use printed_form::grammar::{maps_are_of_the_grammar, terms_are_printed_within, views_stay_within};
@@ -13,6 +13,15 @@ pub fn group_kernels_are_of_the_grammar()
     ensures { GroupKernelsAreOfTheGrammar }
 {
     local_arrays_are_counted();
+    maps_are_of_the_grammar();
+    terms_are_printed_within();
+    views_stay_within();
+}
+
+/// The same of a map over rows of work-groups around one over the groups of a row.
+pub fn grid_kernels_are_of_the_grammar()
+    ensures { GridKernelsAreOfTheGrammar }
+{
     maps_are_of_the_grammar();
     terms_are_printed_within();
     views_stay_within();

@@ -2,7 +2,7 @@
 //! and printed for the term at each admissible launch.
 //!
 //! `limits` says how deep indices, expressions and loops nest; `soundness` that a legal term has
-//! sound parts; `terms` what its kernel is, by either printer, whose pieces are in `group_grammar`
+//! sound parts; `terms` what its kernel is, by each printer, whose pieces are in `group_grammar`
 //! for maps over work-groups; `arrays` which arrays it declares.
 #![tactic(auto)]
 

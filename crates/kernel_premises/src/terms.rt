@@ -2,7 +2,9 @@
 
 ghost use Rattle.kernel_premises.specs.Terms.{FormulasSpellLengths, KernelsAreInTheGrammar, SoundPartsAreSpelled, TermsArePrinted};
 
-use crate::group_grammar::{group_kernels_are_of_the_grammar, needed_are_flagged};
+use crate::group_grammar::{
+    grid_kernels_are_of_the_grammar, group_kernels_are_of_the_grammar, needed_are_flagged,
+};
 use crate::limits::{terms_can_be_written, terms_nest_within};
 use crate::soundness::lowered_terms_have_sound_parts;
 use group_form::kernels::kernels_are_printed;
@@ -29,6 +31,7 @@ pub fn sound_parts_are_spelled()
 pub fn kernels_are_in_the_grammar()
     ensures { KernelsAreInTheGrammar }
 {
+    grid_kernels_are_of_the_grammar();
     group_kernels_are_of_the_grammar();
     kernels_are_of_the_grammar();
     lowered_terms_have_sound_parts();

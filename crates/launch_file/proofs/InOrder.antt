@@ -17,12 +17,12 @@ use Rattle.launch_file.specs.declared.file.Ask.{Ask}
 use Rattle.launch_file.specs.declared.refusal.Key.TheVariants as key
 use Rattle.launch_file.specs.declared.refusal.LaunchNo.{LaunchNo}
 use Rattle.launch_file.specs.declared.refusal.LaunchNo.TheVariants as no
-use Rattle.launch_file.specs.Json.{is_object, object_at, whole_at}
-use Rattle.launch_file.specs.LaunchFile.{IsSchedule}
+use Rattle.launch_file.specs.Json.{is_object, object_at, pair_at}
+use Rattle.launch_file.specs.LaunchFile.{IsSchedule, PlainAsk, ask_of, asks_in}
 use Rattle.launch_file.specs.Judged.{and_then, bases_of, demand, inputs_judged, items_judged, schedule_at, sizes_judged}
 use Rattle.launch_file.specs.Stages.{Shared, Count, GivenInOrder, GivesCount, GiveCounts, GivesAll, IsStagesFile, members, all_objects, objects_in, launches_at, StageKeys, stage_keys_judged, stage_judged, stages_judged_from, shared_given, stages_judged}
 use Rattle.launch_file.proofs.Options.{and_ok, ok_or_is, demand_is, yes, same_ok, and_some, tested, passed, and_parts, and_both, eq_of, eq_to}
-use Rattle.launch_file.proofs.WrittenData.{whole_at_is, object_at_is, as_array_is}
+use Rattle.launch_file.proofs.WrittenData.{pair_at_is, object_at_is, as_array_is}
 use Rattle.launch_file.proofs.AtKeys.{schedule_at_is, items_are}
 use Rattle.launch_file.proofs.Ranges.{admissible_bases, sizes-bases}
 use Rattle.launch_file.proofs.Whole.{sizes_are, inputs_are}
@@ -61,17 +61,17 @@ stage_keys_are count d k h =
 -- ---- the kernels
 
 module _ (p : PlainProgram) (s : Shared) (adm : Admissible (declared_by p).names s.bases) where
-  stage_is : (k : ℕ) (ask : Ask) (own : Data) (c : Count) → IsTrue (is_object own) → stage_judged k ask own ≡ Ok c → GivesCount p s ask own c
+  stage_is : (k : ℕ) (ask : PlainAsk) (own : Data) (c : Count) → IsTrue (is_object own) → stage_judged k ask own ≡ Ok c → GivesCount p s ask own c
   stage_is k ask own c object h =
-      let g = and_ok (ok_or (whole_at (codes "global") own) (no.Missing (key.GlobalOf k))) _ c h in
-      let l = and_ok (ok_or (whole_at (codes "local") own) (no.Missing (key.LocalOf k))) _ c g.2 in
-      let i = and_ok (items_judged ask g.0 l.0) _ c l.2 in
-      let grouped = items_are ask g.0 l.0 i.0 i.1 in
+      let g = and_ok (ok_or (pair_at (codes "global") own) (no.Missing (key.GlobalOf k))) _ c h in
+      let l = and_ok (ok_or (pair_at (codes "local") own) (no.Missing (key.LocalOf k))) _ c g.2 in
+      let i = and_ok (items_judged (asks_in ask) g.0 l.0) _ c l.2 in
+      let grouped = items_are (asks_in ask) g.0 l.0 i.0 i.1 in
       let whole : Count = record { global = g.0; local = l.0 } in
       let found : GivesCount p s ask own whole = record {
         object = object;
-        global = whole_at_is (codes "global") own g.0 (ok_or_is (whole_at (codes "global") own) (no.Missing (key.GlobalOf k)) g.0 g.1);
-        local = whole_at_is (codes "local") own l.0 (ok_or_is (whole_at (codes "local") own) (no.Missing (key.LocalOf k)) l.0 l.1);
+        global = pair_at_is (codes "global") own g.0 (ok_or_is (pair_at (codes "global") own) (no.Missing (key.GlobalOf k)) g.0 g.1);
+        local = pair_at_is (codes "local") own l.0 (ok_or_is (pair_at (codes "local") own) (no.Missing (key.LocalOf k)) l.0 l.1);
         admissible = record {
           sizes = adm;
           local_least = grouped.local_least;
@@ -81,11 +81,12 @@ module _ (p : PlainProgram) (s : Shared) (adm : Admissible (declared_by p).names
           divides = grouped.divides;
           fixed = grouped.fixed;
           alone = grouped.alone;
+          flat = grouped.flat;
         };
       } in
       subst (GivesCount p s ask own) (same_ok whole c i.2) found
 
-  stages_are : (k : ℕ) (asks : List Ask) (owns : List Data) (cs : List Count) → length owns ≡ length asks → IsTrue (all_objects owns) → stages_judged_from k asks owns ≡ Ok cs → GiveCounts p s asks owns cs
+  stages_are : (k : ℕ) (asks : List PlainAsk) (owns : List Data) (cs : List Count) → length owns ≡ length asks → IsTrue (all_objects owns) → stages_judged_from k asks owns ≡ Ok cs → GiveCounts p s asks owns cs
   stages_are k [] [] cs n o h = subst (GiveCounts p s [] []) (same_ok [] cs h) tt
   stages_are k [] (own ∷ owns) cs n o h = absurd (omega (arith, n))
   stages_are k (ask ∷ asks) [] cs n o h = absurd (omega (arith, n))
@@ -97,7 +98,7 @@ module _ (p : PlainProgram) (s : Shared) (adm : Admissible (declared_by p).names
       subst (GiveCounts p s (ask ∷ asks) (own ∷ owns)) (same_ok (a.0 ∷ b.0) cs b.2)
       (stage_is k ask own a.0 both.0 a.1, stages_are (suc k) asks owns b.0 m both.1 b.1)
 
-pub all_given : (p : PlainProgram) (asks : List Ask) (d : Data) (g : GivenInOrder) → HasProperInputs p → stages_judged p asks d ≡ Ok g → GivesAll p asks d g
+pub all_given : (p : PlainProgram) (asks : List PlainAsk) (d : Data) (g : GivenInOrder) → HasProperInputs p → stages_judged p asks d ≡ Ok g → GivesAll p asks d g
 all_given p asks d g proper h =
     let names = (declared_by p).names in
     let a = and_ok (demand (is_object d) no.NotJson) _ g h in
@@ -129,7 +130,7 @@ all_given p asks d g proper h =
     } in
     subst (GivesAll p asks d) (same_ok whole g v.2) found
 
-pub stages_file_is : (p : PlainProgram) (asks : List Ask) (bytes : List ℕ) (d : Data) (g : GivenInOrder) → HasProperInputs p → IsUtf8 bytes → read bytes ≡ Some d → stages_judged p asks d ≡ Ok g → IsStagesFile p asks bytes g
+pub stages_file_is : (p : PlainProgram) (asks : List PlainAsk) (bytes : List ℕ) (d : Data) (g : GivenInOrder) → HasProperInputs p → IsUtf8 bytes → read bytes ≡ Some d → stages_judged p asks d ≡ Ok g → IsStagesFile p asks bytes g
 stages_file_is p asks bytes d g proper text e h = (d, (text, e), all_given p asks d g proper h)
 
 -- ---- what the code owes
@@ -147,7 +148,7 @@ behind (Ok vs) w old = ap yes (sym (append_assoc old (w ∷ []) vs))
 behind (Err e) w old = refl
 
 -- the work-items of one more kernel
-pub stages_step : (asks : List Ask) (ds : List Data) (i : ℕ) (old new : List Count) (ask : Ask) (d : Data) (c : Count)
+pub stages_step : (asks : List PlainAsk) (ds : List Data) (i : ℕ) (old new : List Count) (ask : PlainAsk) (d : Data) (c : Count)
     → i < length asks → i < length ds → d ≡ get_or ds i d → stage_judged i (get_or asks i ask) d ≡ Ok c → new ≡ old ++ c ∷ []
     → and_then (stages_judged_from i (drop i asks) (drop i ds)) (λ cs. yes (old ++ cs))
     ≡ and_then (stages_judged_from (i + 1) (drop (i + 1) asks) (drop (i + 1) ds)) (λ cs. yes (new ++ cs))
@@ -164,7 +165,7 @@ stages_step asks ds i old new ask d c l m f h n =
     ∙ ap (λ k. and_then (stages_judged_from k more owns) (λ cs. yes (new ++ cs))) next
 
 -- a kernel that is refused is the first of all that are
-pub stages_refused : (asks : List Ask) (ds : List Data) (i : ℕ) (old : List Count) (ask : Ask) (d : Data) (e : LaunchNo)
+pub stages_refused : (asks : List PlainAsk) (ds : List Data) (i : ℕ) (old : List Count) (ask : PlainAsk) (d : Data) (e : LaunchNo)
     → i < length asks → i < length ds → d ≡ get_or ds i d → stage_judged i (get_or asks i ask) d ≡ Err e
     → and_then (stages_judged_from i (drop i asks) (drop i ds)) (λ cs. yes (old ++ cs)) ≡ Err e
 stages_refused asks ds i old ask d e l m f h =
@@ -179,6 +180,10 @@ stages_refused asks ds i old ask d e l m f h =
 pub handed_on : {V : Type 0} (judged : Result (List Count) LaunchNo) (r : Result V LaunchNo) (e : LaunchNo) → IsErrAnd r (λ x. x ≡ e) → judged ≡ Err e → IfErr r (λ x. x ≢ no.Memory → judged ≡ Err x)
 handed_on judged (Ok v) e same h = tt
 handed_on judged (Err x) e same h = λ _. subst (λ y. judged ≡ Err y) (sym same) h
+
+-- what is asked of the kernel of this number
+pub asked_at : (asks : List Ask) (i : ℕ) (a : Ask) → i < length asks → ask_of (get_or asks i a) ≡ get_or (map ask_of asks) i (ask_of a)
+asked_at asks i a l = sym (get_or-map ask_of asks i a (ask_of a) l)
 
 -- the object of this number
 pub own_at : (vs : List json.Value) (i : ℕ) (v : json.Value) → i < length vs → v ≡ get_or vs i v → view v ≡ get_or (map view vs) i (view v)

@@ -8,6 +8,7 @@ use Rattle.serde_json.specs.declared.value.Value as json
 use Rattle.lift_tree.specs.declared.value.Val as held
 use Rattle.lift_tree.specs.declared.value.Val.{Val, the_lemmas, Row_of-Val, end_of-Val, more_of-Val, items-the_row-Val}
 use Rattle.lift_tree.specs.Values.{Value, More, value_of, row_value, array}
+use Rattle.launch_file.specs.Json.{two_in}
 use Rattle.launch_file.specs.Inputs.{read_two, read_many, read_all, read_value, length_at}
 use Rattle.lift_tree.specs.declared.length.Part.{Part}
 use Rattle.lift_tree.specs.InputTypes.{Written, Array}
@@ -29,6 +30,15 @@ no_two f g [] h = refl
 no_two f g (u ∷ []) h = refl
 no_two f g (u ∷ v ∷ []) h = absurd (h refl)
 no_two f g (u ∷ v ∷ w ∷ vs) h = refl
+
+-- nor two numbers
+pub no_pair : (vs : List json.Value) → (length vs ≡ 2 → ⊥) → two_in (items_view vs) ≡ None
+no_pair [] h = refl
+no_pair (u ∷ []) h = refl
+no_pair (u ∷ v ∷ []) h = absurd (h refl)
+no_pair (u ∷ v ∷ w ∷ vs) h = refl
+
+pub ruleset read_pairs = (no_pair)
 
 if_not : (b : Bool) → (IsTrue b → ⊥) → (o : Option Value) → (if b then o else None) ≡ None
 if_not true h o = absurd (h refl)

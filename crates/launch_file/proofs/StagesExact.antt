@@ -7,16 +7,16 @@ use Rattle.serde_json.specs.Find.{get, as_array}
 use Rattle.lift_tree.specs.Limits.{HasProperInputs}
 use Rattle.lift_tree.specs.Programs.{PlainProgram}
 use Rattle.lift_tree.specs.Typing.{declared_by}
-use Rattle.launch_file.specs.declared.file.Ask.{Ask}
 use Rattle.launch_file.specs.declared.refusal.Key.TheVariants as key
 use Rattle.launch_file.specs.declared.refusal.LaunchNo.{LaunchNo}
 use Rattle.launch_file.specs.declared.refusal.LaunchNo.TheVariants as no
 use Rattle.launch_file.specs.Json.{is_object}
+use Rattle.launch_file.specs.LaunchFile.{PlainAsk, asks_in}
 use Rattle.launch_file.specs.Judged.{AreInRange, bases_of, inputs_judged}
 use Rattle.launch_file.specs.Laws.{StagesChecksAreExact, StagesFilesAreNotRefused, StagesFilesGiveOneThing}
 use Rattle.launch_file.specs.Stages.{Shared, Count, GivenInOrder, GivesCount, GiveCounts, GivesAll, RefusesStages, members, all_objects, objects_in, launches_at, StageKeys, stage_keys_judged, stage_judged, stages_judged_from, shared_given, stages_judged}
 use Rattle.launch_file.proofs.Options.{then_ok, demand_gives, yes, same_ok, same_some, and_both}
-use Rattle.launch_file.proofs.WrittenData.{whole_at_gives, object_at_gives}
+use Rattle.launch_file.proofs.WrittenData.{pair_at_gives, object_at_gives}
 use Rattle.launch_file.proofs.AtKeys.{AreGrouped, schedule_at_gives, items_give}
 use Rattle.launch_file.proofs.Ranges.{bases-sizes, sizes_in_range}
 use Rattle.launch_file.proofs.Whole.{sizes_give, inputs_give}
@@ -37,9 +37,9 @@ stage_keys_give count d k h =
     (then_ok _ _ k.inputs k (ap (λ o. ok_or o (no.Missing key.Inputs)) (object_at_gives (codes "inputs") d k.inputs h.inputs.0 h.inputs.1))
     (then_ok _ _ k.schedule k (schedule_at_gives (get (codes "schedule") d) k.schedule h.schedule) refl)))
 
-stage_gives : (p : PlainProgram) (s : Shared) (k : ℕ) (ask : Ask) (own : Data) (c : Count) → GivesCount p s ask own c → stage_judged k ask own ≡ Ok c
+stage_gives : (p : PlainProgram) (s : Shared) (k : ℕ) (ask : PlainAsk) (own : Data) (c : Count) → GivesCount p s ask own c → stage_judged k ask own ≡ Ok c
 stage_gives p s k ask own c h =
-    let grouped : AreGrouped ask c.global c.local = record {
+    let grouped : AreGrouped (asks_in ask) c.global c.local = record {
       local_least = h.admissible.local_least;
       local_most = h.admissible.local_most;
       global_least = h.admissible.global_least;
@@ -47,18 +47,19 @@ stage_gives p s k ask own c h =
       divides = h.admissible.divides;
       fixed = h.admissible.fixed;
       alone = h.admissible.alone;
+      flat = h.admissible.flat;
     } in
-    then_ok _ _ c.global c (ap (λ o. ok_or o (no.Missing (key.GlobalOf k))) (whole_at_gives (codes "global") own c.global h.global))
-    (then_ok _ _ c.local c (ap (λ o. ok_or o (no.Missing (key.LocalOf k))) (whole_at_gives (codes "local") own c.local h.local))
-    (then_ok _ _ tt c (items_give ask c.global c.local grouped) refl))
+    then_ok _ _ c.global c (ap (λ o. ok_or o (no.Missing (key.GlobalOf k))) (pair_at_gives (codes "global") own c.global h.global))
+    (then_ok _ _ c.local c (ap (λ o. ok_or o (no.Missing (key.LocalOf k))) (pair_at_gives (codes "local") own c.local h.local))
+    (then_ok _ _ tt c (items_give (asks_in ask) c.global c.local grouped) refl))
 
 -- the work-items that the objects give pass their checks
-record AreCounted (k : ℕ) (asks : List Ask) (owns : List Data) (cs : List Count) : Type 0 where
+record AreCounted (k : ℕ) (asks : List PlainAsk) (owns : List Data) (cs : List Count) : Type 0 where
   pub judged : stages_judged_from k asks owns ≡ Ok cs
   pub as_many : length owns ≡ length asks
   pub objects : IsTrue (all_objects owns)
 
-stages_give : (p : PlainProgram) (s : Shared) (k : ℕ) (asks : List Ask) (owns : List Data) (cs : List Count) → GiveCounts p s asks owns cs → AreCounted k asks owns cs
+stages_give : (p : PlainProgram) (s : Shared) (k : ℕ) (asks : List PlainAsk) (owns : List Data) (cs : List Count) → GiveCounts p s asks owns cs → AreCounted k asks owns cs
 stages_give p s k [] [] [] h = record { judged = refl; as_many = refl; objects = refl }
 stages_give p s k [] [] (c ∷ cs) h = absurd h
 stages_give p s k [] (own ∷ owns) cs h = absurd h
@@ -72,7 +73,7 @@ stages_give p s k (ask ∷ asks) (own ∷ owns) (c ∷ cs) h =
       objects = and_both (is_object own) (all_objects owns) h.0.object r.objects;
     }
 
-all_gives : (p : PlainProgram) (asks : List Ask) (d : Data) (g : GivenInOrder) → HasProperInputs p → GivesAll p asks d g → stages_judged p asks d ≡ Ok g
+all_gives : (p : PlainProgram) (asks : List PlainAsk) (d : Data) (g : GivenInOrder) → HasProperInputs p → GivesAll p asks d g → stages_judged p asks d ≡ Ok g
 all_gives p asks d g proper h =
     let names = (declared_by p).names in
     let are = proper.declared.names in

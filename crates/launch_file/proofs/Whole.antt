@@ -5,7 +5,6 @@ use Rattle.std.specs.Option.{ok_or}
 use Rattle.serde_json.specs.Data.{Data}
 use Rattle.serde_json.specs.Find.{get}
 use Rattle.serde_json.specs.Read.{read}
-use Rattle.kernel_tree.specs.Launch.{Launch, IsFlat, in_a_row}
 use Rattle.size_arith.specs.declared.names.Name.{Name}
 use Rattle.size_arith.specs.Ranges.{AreNames, Admissible, sizes_at}
 use Rattle.lift_tree.specs.declared.program.Size.{Size}
@@ -16,15 +15,13 @@ use Rattle.lift_tree.specs.Typing.{declared_by}
 use Rattle.lift_tree.specs.Values.{Value}
 use Rattle.lift_tree.specs.WorkedOut.{worked_out}
 use Rattle.lift_tree.proofs.Sound.{have_more}
-use Rattle.launch_file.specs.declared.file.Ask.{Ask}
-use Rattle.launch_file.specs.declared.file.Ask.TheVariants.{Run, Eval, Cost}
 use Rattle.launch_file.specs.declared.refusal.Key.TheVariants as key
 use Rattle.launch_file.specs.declared.refusal.LaunchNo.{LaunchNo}
 use Rattle.launch_file.specs.declared.refusal.LaunchNo.TheVariants as no
 use Rattle.launch_file.specs.Json.{is_object, whole_at, data_of}
 use Rattle.lift_tree.specs.Limits.{HasProperInputs}
 use Rattle.launch_file.specs.Inputs.{InputsFit, read_value}
-use Rattle.launch_file.specs.LaunchFile.{Given, Gives, asked_inputs, GivesItems, StandsAt, GivesSizes, GivesInputs, IsLaunchFile}
+use Rattle.launch_file.specs.LaunchFile.{PlainAsk, Run, Eval, Cost, asks_in, Given, Gives, asked_inputs, StandsAt, GivesSizes, GivesInputs, IsLaunchFile}
 use Rattle.launch_file.specs.Judged.{demand, is_in_range, size_judged, sizes_judged, AreInRange, AllInRange, bases_of, Keyed, keys_judged, items_judged, input_judged, inputs_judged, judged, Refuses}
 use Rattle.launch_file.proofs.Options.{and_ok, then_ok, ok_or_is, demand_is, demand_gives, yes, same_ok, same_some}
 use Rattle.launch_file.proofs.WrittenData.{whole_at_is, whole_at_gives}
@@ -94,19 +91,13 @@ module _ (names : List Name) (ys : List ℕ) (few : length names ≤ 8) (are : A
       then_ok _ _ v (v ∷ vs) one (then_ok _ _ vs (v ∷ vs) (inputs_give (suc i) xs formed.1 d vs h.1 (λ n a e. t (suc n) a e)) refl)
 
 -- ---- the whole
--- a launch of one row is the one that its numbers make
-row_is : (l : Launch) → IsFlat l → in_a_row l.global.0 l.local.0 l.sizes ≡ l
-row_is l flat =
-    ap (λ rows. record { global = (l.global.0, rows); local = (l.local.0, 1); sizes = l.sizes }) (sym flat.one_row)
-    ∙ ap (λ rows. record { global = l.global; local = (l.local.0, rows); sizes = l.sizes }) (sym flat.one_local_row)
-
 -- those that are read are formed as all are
-asked_formed : (names : List Name) (ask : Ask) (xs : List PlainInput) → Every (IsFormed names) (types_of names xs) → Every (IsFormed names) (types_of names (asked_inputs ask xs))
-asked_formed names (Run task local) xs h = h
+asked_formed : (names : List Name) (ask : PlainAsk) (xs : List PlainInput) → Every (IsFormed names) (types_of names xs) → Every (IsFormed names) (types_of names (asked_inputs ask xs))
+asked_formed names (Run asks) xs h = h
 asked_formed names Eval xs h = h
-asked_formed names (Cost task local) xs h = tt
+asked_formed names (Cost asks) xs h = tt
 
-pub given_is : (p : PlainProgram) (ask : Ask) (d : Data) (g : Given) → HasProperInputs p → judged p ask d ≡ Ok g → Gives p ask d g
+pub given_is : (p : PlainProgram) (ask : PlainAsk) (d : Data) (g : Given) → HasProperInputs p → judged p ask d ≡ Ok g → Gives p ask d g
 given_is p ask d g proper h =
     let names = (declared_by p).names in
     let few = proper.declared.few in
@@ -114,7 +105,7 @@ given_is p ask d g proper h =
     let a = and_ok (demand (is_object d) no.NotJson) _ g h in
     let k = and_ok (keys_judged ask d) _ g a.2 in
     let s = and_ok (sizes_judged 0 p.sizes k.0.sizes) _ g k.2 in
-    let i = and_ok (items_judged ask k.0.global k.0.local) _ g s.2 in
+    let i = and_ok (items_judged (asks_in ask) k.0.global k.0.local) _ g s.2 in
     let v = and_ok (inputs_judged s.0 0 (asked_inputs ask p.inputs) k.0.inputs) _ g i.2 in
     let r = sizes_are 0 p.sizes k.0.sizes s.0 s.1 in
     let ys = bases_of p.sizes s.0 in
@@ -122,11 +113,10 @@ given_is p ask d g proper h =
     let e : s.0 ≡ sizes_at names ys = sizes-bases p.sizes s.0 r.0 in
     let w = inputs_are names ys few are adm 0 (asked_inputs ask p.inputs) (asked_formed names ask p.inputs proper.declared.inputs) k.0.inputs v.0 (subst (λ ns. inputs_judged ns 0 (asked_inputs ask p.inputs) k.0.inputs ≡ Ok v.0) e v.1) in
     let keyed = keys_are ask d k.0 s.0 k.1 in
-    let grouped = items_are ask k.0.global k.0.local i.0 i.1 in
-    let whole : Given = record { launch = in_a_row k.0.global k.0.local s.0; bases = ys; inputs = v.0; schedule = k.0.schedule } in
+    let grouped = items_are (asks_in ask) k.0.global k.0.local i.0 i.1 in
+    let whole : Given = record { launch = record { global = k.0.global; local = k.0.local; sizes = s.0 }; bases = ys; inputs = v.0; schedule = k.0.schedule } in
     let found : Gives p ask d whole = record {
       object = demand_is (is_object d) no.NotJson a.0 a.1;
-      flat = record { one_row = refl; one_local_row = refl };
       items = keyed.items;
       sizes = (k.0.sizes, keyed.sizes.0, keyed.sizes.1, r.1);
       inputs = (k.0.inputs, keyed.inputs, w.0);
@@ -141,23 +131,24 @@ given_is p ask d g proper h =
         divides = grouped.divides;
         fixed = grouped.fixed;
         alone = grouped.alone;
+        flat = grouped.flat;
       };
       typed = w.1;
     } in
     subst (Gives p ask d) (same_ok whole g v.2) found
 
-pub given_gives : (p : PlainProgram) (ask : Ask) (d : Data) (g : Given) → HasProperInputs p → Gives p ask d g → judged p ask d ≡ Ok g
+pub given_gives : (p : PlainProgram) (ask : PlainAsk) (d : Data) (g : Given) → HasProperInputs p → Gives p ask d g → judged p ask d ≡ Ok g
 given_gives p ask d g proper h =
     let names = (declared_by p).names in
     let are = proper.declared.names in
     let adm = h.admissible.sizes in
-    let k : Keyed = record { global = g.launch.global.0; local = g.launch.local.0; sizes = h.sizes.0; inputs = h.inputs.0; schedule = g.schedule } in
-    let keyed : AreKeyed ask d k g.launch.sizes = record { items = subst (GivesItems ask d) (sym (row_is g.launch h.flat)) h.items; sizes = (h.sizes.1, h.sizes.2); inputs = h.inputs.1; schedule = h.schedule } in
+    let k : Keyed = record { global = g.launch.global; local = g.launch.local; sizes = h.sizes.0; inputs = h.inputs.0; schedule = g.schedule } in
+    let keyed : AreKeyed ask d k g.launch.sizes = record { items = h.items; sizes = (h.sizes.1, h.sizes.2); inputs = h.inputs.1; schedule = h.schedule } in
     let in_range : AreInRange p.sizes g.launch.sizes = subst (AreInRange p.sizes) (sym h.bases) (sizes_in_range p.sizes g.bases are adm) in
     let bases_are : bases_of p.sizes g.launch.sizes ≡ g.bases = ap (bases_of p.sizes) h.bases ∙ bases-sizes p.sizes g.bases are adm in
     let inputs_ok : inputs_judged g.launch.sizes 0 (asked_inputs ask p.inputs) k.inputs ≡ Ok g.inputs =
     subst (λ ns. inputs_judged ns 0 (asked_inputs ask p.inputs) k.inputs ≡ Ok g.inputs) (sym h.bases) (inputs_give names g.bases proper.declared.few are adm 0 (asked_inputs ask p.inputs) (asked_formed names ask p.inputs proper.declared.inputs) k.inputs g.inputs h.inputs.2 h.typed) in
-    let grouped : AreGrouped ask g.launch.global.0 g.launch.local.0 = record {
+    let grouped : AreGrouped (asks_in ask) g.launch.global g.launch.local = record {
       local_least = h.admissible.local_least;
       local_most = h.admissible.local_most;
       global_least = h.admissible.global_least;
@@ -165,30 +156,30 @@ given_gives p ask d g proper h =
       divides = h.admissible.divides;
       fixed = h.admissible.fixed;
       alone = h.admissible.alone;
+      flat = h.admissible.flat;
     } in
-    let end : yes (record { launch = in_a_row g.launch.global.0 g.launch.local.0 g.launch.sizes; bases = bases_of p.sizes g.launch.sizes; inputs = g.inputs; schedule = g.schedule }) ≡ Ok g =
-    ap (λ l. yes (record { launch = l; bases = bases_of p.sizes g.launch.sizes; inputs = g.inputs; schedule = g.schedule })) (row_is g.launch h.flat)
-    ∙ ap (λ ys. yes (record { launch = g.launch; bases = ys; inputs = g.inputs; schedule = g.schedule })) bases_are in
+    let end : yes (record { launch = g.launch; bases = bases_of p.sizes g.launch.sizes; inputs = g.inputs; schedule = g.schedule }) ≡ Ok g =
+    ap (λ ys. yes (record { launch = g.launch; bases = ys; inputs = g.inputs; schedule = g.schedule })) bases_are in
     then_ok _ _ tt g (demand_gives (is_object d) no.NotJson h.object)
     (then_ok _ _ k g (keys_give ask d k g.launch.sizes keyed)
     (then_ok _ _ g.launch.sizes g (sizes_give 0 p.sizes k.sizes g.launch.sizes in_range h.sizes.3)
-    (then_ok _ _ tt g (items_give ask g.launch.global.0 g.launch.local.0 grouped)
+    (then_ok _ _ tt g (items_give (asks_in ask) g.launch.global g.launch.local grouped)
     (then_ok _ _ g.inputs g inputs_ok end))))
 
 -- ---- files
-pub launch_file_is : (p : PlainProgram) (ask : Ask) (bytes : List ℕ) (d : Data) (g : Given) → HasProperInputs p → IsUtf8 bytes → read bytes ≡ Some d → judged p ask d ≡ Ok g → IsLaunchFile p ask bytes g
+pub launch_file_is : (p : PlainProgram) (ask : PlainAsk) (bytes : List ℕ) (d : Data) (g : Given) → HasProperInputs p → IsUtf8 bytes → read bytes ≡ Some d → judged p ask d ≡ Ok g → IsLaunchFile p ask bytes g
 launch_file_is p ask bytes d g proper text e h = (d, (text, e), given_is p ask d g proper h)
 
 ok_no_err : (r : Result Given LaunchNo) (g : Given) (e : LaunchNo) → r ≡ Ok g → r ≡ Err e → ⊥
 ok_no_err r g e h k = cc
 
-pub not_refused : (p : PlainProgram) (ask : Ask) (bytes : List ℕ) (g : Given) (e : LaunchNo) → HasProperInputs p → IsLaunchFile p ask bytes g → Refuses p ask bytes e → ⊥
+pub not_refused : (p : PlainProgram) (ask : PlainAsk) (bytes : List ℕ) (g : Given) (e : LaunchNo) → HasProperInputs p → IsLaunchFile p ask bytes g → Refuses p ask bytes e → ⊥
 not_refused p ask bytes g e proper h (inl r) = r.0 h.0 h.1
 not_refused p ask bytes g e proper h (inr r) =
     let same : h.0 ≡ r.0 = same_some h.0 r.0 (sym h.1.1 ∙ r.1.1) in
     ok_no_err (judged p ask r.0) g e (subst (λ d. judged p ask d ≡ Ok g) same (given_gives p ask h.0 g proper h.2)) r.2
 
-pub one_given : (p : PlainProgram) (ask : Ask) (bytes : List ℕ) (g k : Given) → HasProperInputs p → IsLaunchFile p ask bytes g → IsLaunchFile p ask bytes k → g ≡ k
+pub one_given : (p : PlainProgram) (ask : PlainAsk) (bytes : List ℕ) (g k : Given) → HasProperInputs p → IsLaunchFile p ask bytes g → IsLaunchFile p ask bytes k → g ≡ k
 one_given p ask bytes g k proper h j =
     let same : h.0 ≡ j.0 = same_some h.0 j.0 (sym h.1.1 ∙ j.1.1) in
     same_ok g k (sym (given_gives p ask h.0 g proper h.2) ∙ ap (judged p ask) same ∙ given_gives p ask j.0 k proper j.2)

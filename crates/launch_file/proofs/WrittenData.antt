@@ -1,11 +1,11 @@
 -- Numbers and lists of numbers in JSON.
-use Rattle.std.proofs.Common.{◌≡◌, ◌∙◌, ℕ, ◌<◌, ◌^◌, List, [], ◌∷◌, refl, ap, subst, Some, None}
+use Rattle.std.proofs.Common.{◌≡◌, ◌∙◌, ℕ, ◌<◌, ◌^◌, List, [], ◌∷◌, refl, sym, ap, subst, Option, Some, None, inl, inr}
 use Rattle.std.specs.Prelude.{IsTrue, nat_lt, if◌then◌else◌, option_map, option_and_then}
 use Rattle.serde_json.specs.Data.{Data, null, boolean, number, string, array, object, Items, no_items, item, unsigned, negative, float}
 use Rattle.serde_json.specs.Find.{get, as_array}
 use Rattle.lift_tree.specs.Lists.{Every}
-use Rattle.launch_file.specs.Json.{is_object, whole, whole_at, object_at, word_in, words_in, number_data, items_data}
-use Rattle.launch_file.specs.LaunchFile.{StandsAt}
+use Rattle.launch_file.specs.Json.{is_object, whole, whole_at, two_in, pair_from, pair_in, pair_at, object_at, word_in, words_in, number_data, items_data}
+use Rattle.launch_file.specs.LaunchFile.{StandsAt, IsPair, PairAt}
 use Rattle.launch_file.proofs.Options.{and_some, map_some, same_some, tested, passed, lt_of, lt_to}
 
 pub whole_is : (d : Data) (n : ℕ) → whole d ≡ Some n → d ≡ number_data n
@@ -63,6 +63,32 @@ as_array_is (number n) ds h = absurd (cc)
 as_array_is (string s) ds h = absurd (cc)
 as_array_is (array es) ds h = ap array (same_some es ds h)
 as_array_is (object ms) ds h = absurd (cc)
+
+two_is : (ds : Items) (p : ℕ × ℕ) → two_in ds ≡ Some p → ds ≡ items_data (p.0 ∷ p.1 ∷ [])
+two_is no_items p h = absurd (cc)
+two_is (item d no_items) p h = absurd (cc)
+two_is (item d (item e no_items)) p h =
+    let a = and_some (λ n. option_map (λ m. (n, m)) (whole e)) (whole d) p h in
+    let b = map_some (λ m. (a.0, m)) (whole e) p a.2 in
+    subst (λ (q : ℕ × ℕ). item d (item e no_items) ≡ items_data (q.0 ∷ q.1 ∷ [])) b.2
+    (ap (λ x. item x (item e no_items)) (whole_is d a.0 a.1) ∙ ap (λ x. item (number_data a.0) (item x no_items)) (whole_is e b.0 b.1))
+two_is (item d (item e (item f ds))) p h = absurd (cc)
+
+pair_from_is : (d : Data) (o : Option Items) (p : ℕ × ℕ) → as_array d ≡ o → pair_from o (whole d) ≡ Some p → IsPair d p
+pair_from_is d (Some ds) p e h = inl (as_array_is d ds e ∙ ap array (two_is ds p h))
+pair_from_is d None p e h =
+    let b = map_some (λ m. (m, 1)) (whole d) p h in
+    inr (subst (λ (q : ℕ × ℕ). (d ≡ number_data q.0) × (q.1 ≡ 1)) b.2 (whole_is d b.0 b.1, refl))
+
+pair_gives : (d : Data) (p : ℕ × ℕ) → IsPair d p → pair_in d ≡ Some p
+pair_gives d p (inl e) = subst (λ x. pair_in x ≡ Some p) (sym e) refl
+pair_gives d p (inr e) = subst (λ x. pair_in x ≡ Some p) (sym e.0) (ap (λ m. Some (p.0, m)) (sym e.1))
+
+pub pair_at_is : (key : List ℕ) (d : Data) (p : ℕ × ℕ) → pair_at key d ≡ Some p → PairAt key d p
+pair_at_is key d p h = let a = and_some pair_in (get key d) p h in (a.0, a.1, pair_from_is a.0 (as_array a.0) p refl a.2)
+
+pub pair_at_gives : (key : List ℕ) (d : Data) (p : ℕ × ℕ) → PairAt key d p → pair_at key d ≡ Some p
+pair_at_gives key d p h = ap (option_and_then pair_in) h.1 ∙ pair_gives h.0 p h.2
 
 -- what has a key is no list
 pub no_list : (key : List ℕ) (d e : Data) → get key d ≡ Some e → as_array d ≡ None

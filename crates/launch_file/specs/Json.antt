@@ -2,7 +2,7 @@
 use Rattle.std.specs.Prelude.{◌≡◌, ◌^◌, ℕ, List, [], ◌∷◌, IsUtf8, nat_lt, if◌then◌else◌, Bool, Option, Some, None, option_map, option_and_then, is_some}
 use Rattle.serde_json.specs.Data.{Data, number, array, Items, no_items, item, unsigned}
 use Rattle.serde_json.specs.Read.{read}
-use Rattle.serde_json.specs.Find.{get, as_number, as_object, as_u64}
+use Rattle.serde_json.specs.Find.{get, as_array, as_number, as_object, as_u64}
 use Rattle.lift_tree.specs.Values.{Value, Word, Both, Nil, More}
 
 -- the bytes are JSON with this value
@@ -20,6 +20,25 @@ whole d = option_and_then as_u64 (as_number d)
 -- the whole number at a key
 abbrev pub whole_at : List ℕ → Data → Option ℕ
 whole_at key d = option_and_then whole (get key d)
+
+-- the two whole numbers that a list is, where it is one of two
+abbrev pub two_in : Items → Option (ℕ × ℕ)
+two_in (item d (item e no_items)) =
+    option_and_then (λ n. option_map (λ m. (n, m)) (whole e)) (whole d)
+two_in _ = None
+
+-- two whole numbers: those of a list, or a number and 1
+abbrev pub pair_from : Option Items → Option ℕ → Option (ℕ × ℕ)
+pair_from (Some ds) n = two_in ds
+pair_from None n = option_map (λ m. (m, 1)) n
+
+-- the two whole numbers that a value is: a number with 1, or a list of two
+abbrev pub pair_in : Data → Option (ℕ × ℕ)
+pair_in d = pair_from (as_array d) (whole d)
+
+-- the two whole numbers at a key
+abbrev pub pair_at : List ℕ → Data → Option (ℕ × ℕ)
+pair_at key d = option_and_then pair_in (get key d)
 
 -- the object at a key
 abbrev pub object_at : List ℕ → Data → Option Data

@@ -1,21 +1,19 @@
 -- The checks of a launch file in their order: what it gives, or the first check that it fails.
-use Rattle.std.specs.Prelude.{◌≡◌, ℕ, suc, ◌/◌, ◌%◌, ◌==◌, ◌&&◌, ◌⊎◌, Bool, true, false, IsTrue, nat_le, List, [], ◌∷◌, Option, Some, None, option_map, option_and_then, Result, Ok, Err, codes}
+use Rattle.std.specs.Prelude.{◌≡◌, ℕ, suc, ◌*◌, ◌/◌, ◌%◌, ◌==◌, ◌&&◌, ◌||◌, not, ◌⊎◌, Bool, true, false, IsTrue, nat_le, List, [], ◌∷◌, Option, Some, None, option_map, option_and_then, Result, Ok, Err, codes}
 use Rattle.std.specs.Option.{ok_or}
 use Rattle.serde_json.specs.Data.{Data, Items}
 use Rattle.serde_json.specs.Find.{get, as_array}
-use Rattle.kernel_tree.specs.Launch.{in_a_row}
 use Rattle.kernel_tree.specs.Schedule.{Schedule, Numbers, Seed, in_order}
 use Rattle.lift_tree.specs.declared.program.Size.{Size}
+use Rattle.lift_tree.specs.Launches.{Asks}
 use Rattle.lift_tree.specs.Programs.{PlainInput, PlainProgram}
 use Rattle.lift_tree.specs.Values.{Value}
-use Rattle.launch_file.specs.declared.file.Ask.{Ask}
-use Rattle.launch_file.specs.declared.file.Ask.TheVariants.{Run, Eval, Cost}
 use Rattle.launch_file.specs.declared.refusal.Key.TheVariants as key
 use Rattle.launch_file.specs.declared.refusal.LaunchNo.{LaunchNo}
 use Rattle.launch_file.specs.declared.refusal.LaunchNo.TheVariants as no
-use Rattle.launch_file.specs.Json.{IsJson, is_object, whole_at, object_at, word_in, words_in}
+use Rattle.launch_file.specs.Json.{IsJson, is_object, whole_at, object_at, pair_at, word_in, words_in}
 use Rattle.launch_file.specs.Inputs.{read_value}
-use Rattle.launch_file.specs.LaunchFile.{Given, asked_inputs}
+use Rattle.launch_file.specs.LaunchFile.{Given, PlainAsk, Run, Eval, Cost, asked_inputs, asks_in}
 
 -- one check after another: the first that fails says why
 abbrev pub and_then : {A B E : Type 0} → Result A E → (A → Result B E) → Result B E
@@ -43,34 +41,34 @@ schedule_at None = Ok in_order
 schedule_at (Some d) = ok_or (schedule_in d) (no.Missing key.Schedule)
 
 -- the schedule of a file; an evaluation and a cost have none to read
-abbrev pub schedule_judged : Ask → Data → Result Schedule LaunchNo
-schedule_judged (Run task local) d = schedule_at (get (codes "schedule") d)
+abbrev pub schedule_judged : PlainAsk → Data → Result Schedule LaunchNo
+schedule_judged (Run asks) d = schedule_at (get (codes "schedule") d)
 schedule_judged Eval d = Ok in_order
-schedule_judged (Cost task local) d = Ok in_order
+schedule_judged (Cost asks) d = Ok in_order
 
--- how many work-items there are in all, or in a group; an evaluation has one
-abbrev pub count_judged : Ask → List ℕ → LaunchNo → Data → Result ℕ LaunchNo
-count_judged (Run task local) name missing d = ok_or (whole_at name d) missing
-count_judged (Cost task local) name missing d = ok_or (whole_at name d) missing
-count_judged Eval name missing d = Ok 1
+-- how many work-items there are along each dimension, in all or in a group; an evaluation has one
+abbrev pub count_judged : PlainAsk → List ℕ → LaunchNo → Data → Result (ℕ × ℕ) LaunchNo
+count_judged (Run asks) name missing d = ok_or (pair_at name d) missing
+count_judged (Cost asks) name missing d = ok_or (pair_at name d) missing
+count_judged Eval name missing d = Ok (1, 1)
 
 -- the object of the inputs; a cost has none to read
-abbrev pub holder_judged : Ask → Data → Result Data LaunchNo
-holder_judged (Run task local) d =
+abbrev pub holder_judged : PlainAsk → Data → Result Data LaunchNo
+holder_judged (Run asks) d =
     ok_or (object_at (codes "inputs") d) (no.Missing key.Inputs)
 holder_judged Eval d = ok_or (object_at (codes "inputs") d) (no.Missing key.Inputs)
-holder_judged (Cost task local) d = Ok d
+holder_judged (Cost asks) d = Ok d
 
 -- what stands at the keys
 pub record Keyed : Type 0 where
-  pub global : ℕ
-  pub local : ℕ
+  pub global : ℕ × ℕ
+  pub local : ℕ × ℕ
   pub sizes : Data
   pub inputs : Data
   pub schedule : Schedule
 
 -- what stands at the keys, looked for in this order
-abbrev pub keys_judged : Ask → Data → Result Keyed LaunchNo
+abbrev pub keys_judged : PlainAsk → Data → Result Keyed LaunchNo
 keys_judged ask d =
     and_then (count_judged ask (codes "global") (no.Missing key.Global) d) (λ global.
     and_then (count_judged ask (codes "local") (no.Missing key.Local) d) (λ local.
@@ -121,33 +119,37 @@ pub record AllInRange (sizes : List Size) (given : List ℕ) : Type 0 where
 
 -- ---- the work-items
 
--- 1 to 256 work-items a group, and 1 to 65536 in all, in whole groups
-abbrev pub is_grouped : (global local : ℕ) → Bool
+-- along each dimension at least one work-item, and no more than this in all
+abbrev pub is_size : (most : ℕ) → ℕ × ℕ → Bool
+is_size most s = nat_le 1 s.0 && (nat_le 1 s.1 && nat_le (s.0 * s.1) most)
+
+-- 1 to 256 work-items a group, and 1 to 65536 in all, in whole groups along each dimension
+abbrev pub is_grouped : (global local : ℕ × ℕ) → Bool
 is_grouped global local =
-    nat_le 1 local
-    && (nat_le local 256 && (nat_le 1 global && (nat_le global 65536 && (global % local == 0))))
+    is_size 256 local
+    && (is_size 65536 global && ((global.0 % local.0 == 0) && (global.1 % local.1 == 0)))
 
 -- a group has the size that is asked for, where one is
-abbrev pub is_asked_size : Ask → (local : ℕ) → Bool
-is_asked_size (Run task (Some size)) local = local == size
-is_asked_size (Run task None) local = true
-is_asked_size (Cost task (Some size)) local = local == size
-is_asked_size (Cost task None) local = true
-is_asked_size Eval local = true
+abbrev pub is_asked_size : Option (ℕ × ℕ) → (local : ℕ × ℕ) → Bool
+is_asked_size (Some size) local = (local.0 == size.0) && (local.1 == size.1)
+is_asked_size None local = true
 
 -- a term without a parallel map is run by one work-item
-abbrev pub is_enough : Ask → (global : ℕ) → Bool
-is_enough (Run true asked) global = global == 1
-is_enough (Run false asked) global = true
-is_enough (Cost true asked) global = global == 1
-is_enough (Cost false asked) global = true
-is_enough Eval global = true
+abbrev pub is_enough : Asks → (global : ℕ × ℕ) → Bool
+is_enough asks global = not asks.alone || (global.0 * global.1 == 1)
 
--- whole groups, of the size that is asked for, and one work-item where no more are needed
-abbrev pub items_judged : Ask → (global local : ℕ) → Result (Unit {0}) LaunchNo
-items_judged ask global local =
-    and_then (demand (is_grouped global local && is_asked_size ask local) (no.Local global local))
-    (λ _. demand (is_enough ask global) (no.NotTask global))
+-- one without a parallel map along dimension 1 by one row
+abbrev pub is_flat : Asks → (global : ℕ × ℕ) → Bool
+is_flat asks global = not asks.flat || (global.1 == 1)
+
+-- whole groups, of the size that is asked for, and one work-item or one row where no more are
+-- needed
+abbrev pub items_judged : Asks → (global local : ℕ × ℕ) → Result (Unit {0}) LaunchNo
+items_judged asks global local =
+    and_then (demand (is_grouped global local && is_asked_size asks.local local)
+    (no.Local global local)) (λ _.
+    and_then (demand (is_enough asks global) (no.NotTask global)) (λ _.
+    demand (is_flat asks global) (no.NotFlat global.1)))
 
 -- ---- the inputs
 
@@ -167,22 +169,22 @@ inputs_judged sizes i (x ∷ xs) d =
 -- ---- the whole
 
 -- what a launch file gives, or the first check that it fails
-abbrev pub judged : PlainProgram → Ask → Data → Result Given LaunchNo
+abbrev pub judged : PlainProgram → PlainAsk → Data → Result Given LaunchNo
 judged p ask d =
     and_then (demand (is_object d) no.NotJson) (λ _.
     and_then (keys_judged ask d) (λ at.
     and_then (sizes_judged 0 p.sizes at.sizes) (λ sizes.
-    and_then (items_judged ask at.global at.local) (λ _.
+    and_then (items_judged (asks_in ask) at.global at.local) (λ _.
     and_then (inputs_judged sizes 0 (asked_inputs ask p.inputs) at.inputs) (λ inputs.
     Ok (record {
-      launch = in_a_row at.global at.local sizes;
+      launch = record { global = at.global; local = at.local; sizes = sizes };
       bases = bases_of p.sizes sizes;
       inputs = inputs;
       schedule = at.schedule;
     }))))))
 
 -- what the bytes are refused for: they are no JSON, or their value fails this check first
-abbrev pub Refuses : PlainProgram → Ask → List ℕ → LaunchNo → Type 0
+abbrev pub Refuses : PlainProgram → PlainAsk → List ℕ → LaunchNo → Type 0
 Refuses p ask bytes e =
     (((d : Data) → ¬ IsJson bytes d) × (e ≡ no.NotJson))
     ⊎ ((d : Data) × IsJson bytes d × (judged p ask d ≡ Err e))

@@ -1,12 +1,13 @@
 -- Launch files.
-use Rattle.std.specs.Prelude.{◌≡◌, ◌<◌, ◌^◌, ℕ, List, [], ◌∷◌, false, Option, Some, None, codes, map, IsTrue}
+use Rattle.std.specs.Prelude.{◌≡◌, ◌<◌, ◌^◌, ◌⊎◌, ℕ, List, [], ◌∷◌, false, Option, Some, None, codes, map, IsTrue}
 use Rattle.lift_tree.specs.Lists.{Every}
 use Rattle.serde_json.specs.Data.{Data, array}
 use Rattle.serde_json.specs.Find.{get}
-use Rattle.kernel_tree.specs.Launch.{Launch, IsFlat}
+use Rattle.kernel_tree.specs.Launch.{Launch}
 use Rattle.kernel_tree.specs.Schedule.{Schedule, Numbers, Seed, in_order, schedule_of}
 use Rattle.size_arith.specs.Ranges.{sizes_at}
 use Rattle.lift_tree.specs.declared.program.Size.{Size}
+use Rattle.lift_tree.specs.FixedSizes.{asked}
 use Rattle.lift_tree.specs.Launches.{Asks, IsAdmissibleLaunch}
 use Rattle.lift_tree.specs.Programs.{PlainInput, PlainProgram}
 use Rattle.lift_tree.specs.Types.{HaveTypes}
@@ -14,9 +15,22 @@ use Rattle.lift_tree.specs.Typing.{declared_by}
 use Rattle.lift_tree.specs.Values.{Value, value_of}
 use Rattle.lift_tree.specs.WorkedOut.{worked_out}
 use Rattle.launch_file.specs.declared.file.Ask.{Ask}
-use Rattle.launch_file.specs.declared.file.Ask.TheVariants.{Run, Eval, Cost}
+use Rattle.launch_file.specs.declared.file.Ask.TheVariants as ask
 use Rattle.launch_file.specs.declared.file.LaunchFile as held
 use Rattle.launch_file.specs.Json.{IsJson, is_object, number_data, items_data, data_of}
+
+-- what a launch file is read for: to run a kernel that asks for this of its launches, to evaluate
+-- the program, or to tell what a run of such a kernel costs
+pub data PlainAsk : Type 0 where
+  Run : Asks → PlainAsk
+  Eval : PlainAsk
+  Cost : Asks → PlainAsk
+
+-- as code holds it
+abbrev pub ask_of : Ask → PlainAsk
+ask_of (ask.Run asks) = Run (asked asks)
+ask_of ask.Eval = Eval
+ask_of (ask.Cost asks) = Cost (asked asks)
 
 -- what a launch file gives: the launch, the values of the base names, the
 -- inputs in order, and the schedule
@@ -36,22 +50,28 @@ given_by f = record {
 }
 
 -- what is asked of the launch; of an evaluation's nothing
-abbrev pub asks_in : Ask → Asks
-asks_in (Run task local) = record { alone = task; local = local }
-asks_in (Cost task local) = record { alone = task; local = local }
-asks_in Eval = record { alone = false; local = None }
+abbrev pub asks_in : PlainAsk → Asks
+asks_in (Run asks) = asks
+asks_in (Cost asks) = asks
+asks_in Eval = record { alone = false; flat = false; local = None }
 
 -- the whole number stands at the key
 abbrev pub StandsAt : List ℕ → Data → ℕ → Type 0
 StandsAt key d n = get key d ≡ Some (number_data n)
 
--- the work-items in all and in a group, along the row; an evaluation has one
-abbrev pub GivesItems : Ask → Data → Launch → Type 0
-GivesItems (Run task asked) d l =
-    StandsAt (codes "global") d l.global.0 × StandsAt (codes "local") d l.local.0
-GivesItems (Cost task asked) d l =
-    StandsAt (codes "global") d l.global.0 × StandsAt (codes "local") d l.local.0
-GivesItems Eval d l = (l.global.0 ≡ 1) × (l.local.0 ≡ 1)
+-- a value is two whole numbers: a list of both, or the first alone, where the second is 1
+abbrev pub IsPair : Data → ℕ × ℕ → Type 0
+IsPair d p = (d ≡ array (items_data (p.0 ∷ p.1 ∷ []))) ⊎ ((d ≡ number_data p.0) × (p.1 ≡ 1))
+
+-- two whole numbers stand at the key
+abbrev pub PairAt : List ℕ → Data → ℕ × ℕ → Type 0
+PairAt key d p = (e : Data) × (get key d ≡ Some e) × IsPair e p
+
+-- the work-items along each dimension, in all and in a group; an evaluation has one
+abbrev pub GivesItems : PlainAsk → Data → Launch → Type 0
+GivesItems (Run asks) d l = PairAt (codes "global") d l.global × PairAt (codes "local") d l.local
+GivesItems (Cost asks) d l = PairAt (codes "global") d l.global × PairAt (codes "local") d l.local
+GivesItems Eval d l = (l.global ≡ (1, 1)) × (l.local ≡ (1, 1))
 
 -- each declared size stands at its name
 abbrev pub GivesSizes : List Size → Data → List ℕ → Type 0
@@ -76,28 +96,27 @@ IsSchedule None s = s ≡ in_order
 IsSchedule (Some d) s = IsScheduleData d s
 
 -- an evaluation and a cost have the empty list
-abbrev pub GivesSchedule : Ask → Data → Schedule → Type 0
-GivesSchedule (Run task local) d s = IsSchedule (get (codes "schedule") d) s
+abbrev pub GivesSchedule : PlainAsk → Data → Schedule → Type 0
+GivesSchedule (Run asks) d s = IsSchedule (get (codes "schedule") d) s
 GivesSchedule Eval d s = s ≡ in_order
-GivesSchedule (Cost task local) d s = s ≡ in_order
+GivesSchedule (Cost asks) d s = s ≡ in_order
 
 -- the inputs that are read: for a cost none
-abbrev pub asked_inputs : Ask → List PlainInput → List PlainInput
-asked_inputs (Run task local) is = is
+abbrev pub asked_inputs : PlainAsk → List PlainInput → List PlainInput
+asked_inputs (Run asks) is = is
 asked_inputs Eval is = is
-asked_inputs (Cost task local) is = []
+asked_inputs (Cost asks) is = []
 
 -- the object that they stand in
-abbrev pub HoldsInputs : Ask → Data → Data → Type 0
-HoldsInputs (Run task local) d e = (get (codes "inputs") d ≡ Some e) × IsTrue (is_object e)
+abbrev pub HoldsInputs : PlainAsk → Data → Data → Type 0
+HoldsInputs (Run asks) d e = (get (codes "inputs") d ≡ Some e) × IsTrue (is_object e)
 HoldsInputs Eval d e = (get (codes "inputs") d ≡ Some e) × IsTrue (is_object e)
-HoldsInputs (Cost task local) d e = d ≡ e
+HoldsInputs (Cost asks) d e = d ≡ e
 
 -- A value is a launch file of the program, and this is what it gives: an admissible
 -- launch, and inputs of their types.
-pub record Gives (p : PlainProgram) (ask : Ask) (d : Data) (g : Given) : Type 0 where
+pub record Gives (p : PlainProgram) (ask : PlainAsk) (d : Data) (g : Given) : Type 0 where
   pub object : IsTrue (is_object d)
-  pub flat : IsFlat g.launch
   pub items : GivesItems ask d g.launch
   pub sizes : (e : Data) × (get (codes "sizes") d ≡ Some e) × IsTrue (is_object e)
       × GivesSizes p.sizes e g.launch.sizes
@@ -106,10 +125,10 @@ pub record Gives (p : PlainProgram) (ask : Ask) (d : Data) (g : Given) : Type 0 
   pub schedule : GivesSchedule ask d g.schedule
   pub bases : g.launch.sizes ≡ sizes_at (declared_by p).names g.bases
   pub admissible : IsAdmissibleLaunch (declared_by p).names
-      (asks_in ask) g.bases g.launch.global.0 g.launch.local.0
+      (asks_in ask) g.bases g.launch.global g.launch.local
   pub typed : HaveTypes g.bases
       (map (λ i. worked_out (declared_by p).names i.ty) (asked_inputs ask p.inputs)) g.inputs
 
 -- the bytes are a launch file of the program
-abbrev pub IsLaunchFile : PlainProgram → Ask → List ℕ → Given → Type 0
+abbrev pub IsLaunchFile : PlainProgram → PlainAsk → List ℕ → Given → Type 0
 IsLaunchFile p ask bytes g = (d : Data) × IsJson bytes d × Gives p ask d g

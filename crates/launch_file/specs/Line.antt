@@ -1,5 +1,5 @@
 -- The line that tells why bytes are no launch file of a program.
-use Rattle.std.specs.Prelude.{ℕ, zero, suc, List, [], ◌∷◌, ◌++◌, codes, decimal, map}
+use Rattle.std.specs.Prelude.{ℕ, zero, suc, List, [], ◌∷◌, ◌++◌, ◌==◌, if◌then◌else◌, codes, decimal, map}
 use Rattle.lift_tree.specs.Programs.{PlainProgram}
 use Rattle.launch_file.specs.declared.line.Detail.{Detail}
 use Rattle.launch_file.specs.declared.line.Detail.TheVariants as detail
@@ -36,6 +36,12 @@ key_text p key.Launches = codes "launches"
 key_text p (key.GlobalOf k) = codes "launches." ++ decimal k ++ codes ".global"
 key_text p (key.LocalOf k) = codes "launches." ++ decimal k ++ codes ".local"
 
+-- two numbers: the first alone where the second is 1, else a list of both
+abbrev pub pair_text : (first second : ℕ) → List ℕ
+pair_text first second =
+    if second == 1 then decimal first
+    else codes "[" ++ decimal first ++ codes "," ++ decimal second ++ codes "]"
+
 -- the line of a refusal
 abbrev pub line_of : PlainProgram → LaunchNo → List ℕ
 line_of p no.NotJson = codes "lift: launch: not json\n"
@@ -43,18 +49,22 @@ line_of p (no.Missing k) = codes "lift: launch: missing " ++ key_text p k ++ cod
 line_of p (no.Size i n) =
     codes "lift: launch: size " ++ size_name p i ++ codes " is " ++ decimal n ++ codes "\n"
 line_of p (no.Local g l) =
-    codes "lift: launch: global " ++ decimal g ++ codes ", local " ++ decimal l ++ codes "\n"
-line_of p (no.NotTask g) = codes "lift: launch: global " ++ decimal g ++ codes " for one item\n"
+    codes "lift: launch: global " ++ pair_text g.0 g.1
+    ++ codes ", local " ++ pair_text l.0 l.1 ++ codes "\n"
+line_of p (no.NotTask g) =
+    codes "lift: launch: global " ++ pair_text g.0 g.1 ++ codes " for one item\n"
+line_of p (no.NotFlat n) = codes "lift: launch: rows " ++ decimal n ++ codes " for one row\n"
 line_of p (no.Shape i) = codes "lift: launch: shape " ++ input_name p i ++ codes "\n"
 line_of p no.Memory = codes "lift: memory\n"
 
 -- ---- a line in parts, without its end
 
--- a name or a number of a line, or nothing
+-- a name, a number or two of a line, or nothing
 abbrev pub detail_text : Detail → List ℕ
 detail_text detail.Nothing = []
 detail_text (detail.Name name) = name.now
 detail_text (detail.Number n) = decimal n
+detail_text (detail.Pair first second) = pair_text first second
 
 -- the line that its parts make
 abbrev pub line_text : Line → List ℕ

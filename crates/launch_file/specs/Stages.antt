@@ -11,12 +11,11 @@ use Rattle.lift_tree.specs.Programs.{PlainProgram}
 use Rattle.lift_tree.specs.Types.{HaveTypes}
 use Rattle.lift_tree.specs.Typing.{declared_by}
 use Rattle.lift_tree.specs.Values.{Value}
-use Rattle.launch_file.specs.declared.file.Ask.{Ask}
 use Rattle.launch_file.specs.declared.refusal.Key.TheVariants as key
 use Rattle.launch_file.specs.declared.refusal.LaunchNo.{LaunchNo}
 use Rattle.launch_file.specs.declared.refusal.LaunchNo.TheVariants as no
-use Rattle.launch_file.specs.Json.{IsJson, is_object, object_at, whole_at}
-use Rattle.launch_file.specs.LaunchFile.{GivesInputs, GivesSizes, IsSchedule, StandsAt, asks_in}
+use Rattle.launch_file.specs.Json.{IsJson, is_object, object_at, pair_at}
+use Rattle.launch_file.specs.LaunchFile.{GivesInputs, GivesSizes, IsSchedule, PairAt, PlainAsk, asks_in}
 use Rattle.launch_file.specs.Judged.{and_then, bases_of, demand, inputs_judged, items_judged, schedule_at, sizes_judged}
 
 -- ---- what such a file is
@@ -28,10 +27,10 @@ pub record Shared : Type 0 where
   pub inputs : List Value
   pub schedule : Schedule
 
--- how many work-items of a kernel there are, in all and in a group
+-- how many work-items of a kernel there are along each dimension, in all and in a group
 pub record Count : Type 0 where
-  pub global : ℕ
-  pub local : ℕ
+  pub global : ℕ × ℕ
+  pub local : ℕ × ℕ
 
 -- what such a file gives: once what all kernels share, and each kernel's work-items
 pub record GivenInOrder : Type 0 where
@@ -50,16 +49,16 @@ pub record GivesShared (p : PlainProgram) (d : Data) (s : Shared) : Type 0 where
   pub typed : HaveTypes s.bases (declared_by p).inputs s.inputs
 
 -- a kernel's own object gives how many work-items it has, and these may run it
-pub record GivesCount (p : PlainProgram) (s : Shared) (ask : Ask) (own : Data)
+pub record GivesCount (p : PlainProgram) (s : Shared) (ask : PlainAsk) (own : Data)
     (c : Count) : Type 0 where
   pub object : IsTrue (is_object own)
-  pub global : StandsAt (codes "global") own c.global
-  pub local : StandsAt (codes "local") own c.local
+  pub global : PairAt (codes "global") own c.global
+  pub local : PairAt (codes "local") own c.local
   pub admissible : IsAdmissibleLaunch (declared_by p).names
       (asks_in ask) s.bases c.global c.local
 
 -- one object a kernel, in order
-abbrev pub GiveCounts : PlainProgram → Shared → List Ask → List Data → List Count → Type 0
+abbrev pub GiveCounts : PlainProgram → Shared → List PlainAsk → List Data → List Count → Type 0
 GiveCounts p s [] [] [] = Unit {0}
 GiveCounts p s (ask ∷ asks) (own ∷ owns) (c ∷ cs) =
     GivesCount p s ask own c × GiveCounts p s asks owns cs
@@ -71,7 +70,7 @@ members no_items = []
 members (item d ds) = d ∷ members ds
 
 -- A value is a launch file of kernels in order, and this is what it gives.
-pub record GivesAll (p : PlainProgram) (asks : List Ask) (d : Data)
+pub record GivesAll (p : PlainProgram) (asks : List PlainAsk) (d : Data)
     (g : GivenInOrder) : Type 0 where
   pub object : IsTrue (is_object d)
   pub shared : GivesShared p d g.shared
@@ -79,7 +78,7 @@ pub record GivesAll (p : PlainProgram) (asks : List Ask) (d : Data)
       × GiveCounts p g.shared asks (members ds) g.counts
 
 -- the bytes are a launch file of kernels in order
-abbrev pub IsStagesFile : PlainProgram → List Ask → List ℕ → GivenInOrder → Type 0
+abbrev pub IsStagesFile : PlainProgram → List PlainAsk → List ℕ → GivenInOrder → Type 0
 IsStagesFile p asks bytes g = (d : Data) × IsJson bytes d × GivesAll p asks d g
 
 -- ---- the checks in their order
@@ -116,14 +115,14 @@ stage_keys_judged count d =
     Ok (record { launches = launches; sizes = sizes; inputs = inputs; schedule = schedule })))))
 
 -- how many work-items the k-th kernel has
-abbrev pub stage_judged : (k : ℕ) → Ask → Data → Result Count LaunchNo
+abbrev pub stage_judged : (k : ℕ) → PlainAsk → Data → Result Count LaunchNo
 stage_judged k ask d =
-    and_then (ok_or (whole_at (codes "global") d) (no.Missing (key.GlobalOf k))) (λ global.
-    and_then (ok_or (whole_at (codes "local") d) (no.Missing (key.LocalOf k))) (λ local.
-    and_then (items_judged ask global local) (λ _. Ok (record { global = global; local = local }))))
+    and_then (ok_or (pair_at (codes "global") d) (no.Missing (key.GlobalOf k))) (λ global.
+    and_then (ok_or (pair_at (codes "local") d) (no.Missing (key.LocalOf k))) (λ local.
+    and_then (items_judged (asks_in ask) global local) (λ _. Ok (record { global = global; local = local }))))
 
 -- those of each kernel in turn, of which the first is the k-th
-abbrev pub stages_judged_from : (k : ℕ) → List Ask → List Data → Result (List Count) LaunchNo
+abbrev pub stages_judged_from : (k : ℕ) → List PlainAsk → List Data → Result (List Count) LaunchNo
 stages_judged_from k [] ds = Ok []
 stages_judged_from k (ask ∷ asks) [] = Ok []
 stages_judged_from k (ask ∷ asks) (d ∷ ds) =
@@ -137,7 +136,7 @@ shared_given p sizes schedule inputs =
     record { sizes = sizes; bases = bases_of p.sizes sizes; inputs = inputs; schedule = schedule }
 
 -- what such a file gives, or the first check that it fails
-abbrev pub stages_judged : PlainProgram → List Ask → Data → Result GivenInOrder LaunchNo
+abbrev pub stages_judged : PlainProgram → List PlainAsk → Data → Result GivenInOrder LaunchNo
 stages_judged p asks d =
     and_then (demand (is_object d) no.NotJson) (λ _.
     and_then (stage_keys_judged (length asks) d) (λ at.
@@ -147,7 +146,7 @@ stages_judged p asks d =
     Ok (record { shared = shared_given p sizes at.schedule inputs; counts = counts }))))))
 
 -- what the bytes are refused for: they are no JSON, or their value fails this check first
-abbrev pub RefusesStages : PlainProgram → List Ask → List ℕ → LaunchNo → Type 0
+abbrev pub RefusesStages : PlainProgram → List PlainAsk → List ℕ → LaunchNo → Type 0
 RefusesStages p asks bytes e =
     (((d : Data) → ¬ IsJson bytes d) × (e ≡ no.NotJson))
     ⊎ ((d : Data) × IsJson bytes d × (stages_judged p asks d ≡ Err e))

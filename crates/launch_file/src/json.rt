@@ -3,7 +3,7 @@
 ghost use Rattle.std.specs.Prelude.{◌≡◌, IfOk, option_map};
 ghost use Rattle.serde_json.specs.Find.{get};
 ghost use Rattle.serde_json.specs.View.{view, items_view};
-ghost use Rattle.launch_file.specs.Json.{object_at, whole_at, word_in, words_in};
+ghost use Rattle.launch_file.specs.Json.{object_at, pair_at, pair_in, whole_at, word_in, words_in};
 
 use lift_tree::program::Identifier;
 use serde_json::Value;
@@ -29,6 +29,27 @@ pub fn whole_at(value: &Value, key: &str) -> Option<u64>
     ensures { result ≡ whole_at key.now (view value.now) }
 {
     value.get(key).and_then(Value::as_u64)
+}
+
+#[tactic(auto, using(crate::proofs::ReadValues::read_pairs))]
+// The two whole numbers that a value is: a number with 1, or a list of two.
+fn pair(value: &Value) -> Option<(u64, u64)>
+    ensures { result ≡ pair_in (view value.now) }
+{
+    let Some(values) = value.as_array() else {
+        return Some((value.as_u64()?, 1));
+    };
+    let [first, second] = values.as_slice() else {
+        return None;
+    };
+    Some((first.as_u64()?, second.as_u64()?))
+}
+
+/// The two whole numbers at a key.
+pub fn pair_at(value: &Value, key: &str) -> Option<(u64, u64)>
+    ensures { result ≡ pair_at key.now (view value.now) }
+{
+    value.get(key).and_then(pair)
 }
 
 /// The object at a key.

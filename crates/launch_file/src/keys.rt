@@ -7,11 +7,12 @@ ghost use Rattle.launch_file.specs.Judged as checks;
 ghost use Rattle.std.specs.Prelude.{codes};
 ghost use Rattle.serde_json.specs.Find.{get};
 ghost use Rattle.launch_file.specs.Judged.{count_judged, holder_judged, keys_judged, schedule_judged};
+ghost use Rattle.launch_file.specs.LaunchFile.{ask_of};
 ghost use Rattle.launch_file.specs.Shown.{keyed_of};
 ghost use Rattle.launch_file.specs.declared.refusal.LaunchNo.TheVariants.{Memory};
 
-use crate::file::Ask;
-use crate::json::{object_at, whole_at, word, words};
+use crate::file::{Ask, Pair};
+use crate::json::{object_at, pair_at, word, words};
 use crate::refusal::{Key, LaunchNo};
 use kernel_tree::launches::Schedule;
 use serde_json::Value;
@@ -20,20 +21,20 @@ use std::alloc::{AllocError, Global};
 /// What stands at the keys.
 #[derive(Drop)]
 pub struct Keyed<'v> {
-    pub global: u64,
-    pub local: u64,
+    pub global: Pair,
+    pub local: Pair,
     pub sizes: &'v Value,
     pub inputs: &'v Value,
     pub schedule: Schedule,
 }
 
-// How many work-items there are in all, or in a group.
-fn count(ask: Ask, value: &Value, key: &str, missing: LaunchNo) -> Result<u64, LaunchNo>
-    ensures { result ≡ count_judged ask key.now missing (view value.now) }
+// How many work-items there are along each dimension, in all or in a group.
+fn count(ask: Ask, value: &Value, key: &str, missing: LaunchNo) -> Result<Pair, LaunchNo>
+    ensures { result ≡ count_judged (ask_of ask) key.now missing (view value.now) }
 {
     match ask {
-        Ask::Run { .. } | Ask::Cost { .. } => whole_at(value, key).ok_or(missing),
-        Ask::Eval => Ok(1),
+        Ask::Run(_) | Ask::Cost(_) => pair_at(value, key).ok_or(missing),
+        Ask::Eval => Ok((1, 1)),
     }
 }
 
@@ -61,34 +62,34 @@ pub fn schedule_at(alloc: Global, value: &Value) -> Result<Schedule, LaunchNo>
 }
 
 fn schedule(alloc: Global, ask: Ask, value: &Value) -> Result<Schedule, LaunchNo>
-    ensures ok { IfOk result (λ s. schedule_judged ask (view value.now) ≡ Ok (schedule_of s)) }
+    ensures ok { IfOk result (λ s. schedule_judged (ask_of ask) (view value.now) ≡ Ok (schedule_of s)) }
     ensures refused { IfErr result (λ e. e ≢ Memory
-        → schedule_judged ask (view value.now) ≡ Err e) }
+        → schedule_judged (ask_of ask) (view value.now) ≡ Err e) }
 {
     match ask {
-        Ask::Run { .. } => schedule_at(alloc, value),
-        Ask::Eval | Ask::Cost { .. } => Ok(Schedule::Numbers(Vec::new(alloc))),
+        Ask::Run(_) => schedule_at(alloc, value),
+        Ask::Eval | Ask::Cost(_) => Ok(Schedule::Numbers(Vec::new(alloc))),
     }
 }
 
 // The object of the inputs; for a cost, which reads none, the value itself.
 fn holder<'v>(ask: Ask, value: &'v Value) -> Result<&'v Value, LaunchNo>
-    ensures ok { IfOk result (λ v. holder_judged ask (view value.entry.now) ≡ Ok (view v.now)) }
-    ensures refused { IfErr result (λ e. holder_judged ask (view value.entry.now) ≡ Err e) }
+    ensures ok { IfOk result (λ v. holder_judged (ask_of ask) (view value.entry.now) ≡ Ok (view v.now)) }
+    ensures refused { IfErr result (λ e. holder_judged (ask_of ask) (view value.entry.now) ≡ Err e) }
 {
     match ask {
-        Ask::Run { .. } | Ask::Eval => {
+        Ask::Run(_) | Ask::Eval => {
             object_at(value, "inputs").ok_or(LaunchNo::Missing(Key::Inputs))
         }
-        Ask::Cost { .. } => Ok(value),
+        Ask::Cost(_) => Ok(value),
     }
 }
 
 /// What stands at the keys, or the first of them that is missing.
 pub fn find_keys<'v>(alloc: Global, ask: Ask, value: &'v Value) -> Result<Keyed<'v>, LaunchNo>
-    ensures ok { IfOk result (λ k. keys_judged ask (view value.entry.now) ≡ Ok (keyed_of k)) }
+    ensures ok { IfOk result (λ k. keys_judged (ask_of ask) (view value.entry.now) ≡ Ok (keyed_of k)) }
     ensures refused { IfErr result (λ e. e ≢ Memory
-        → keys_judged ask (view value.entry.now) ≡ Err e) }
+        → keys_judged (ask_of ask) (view value.entry.now) ≡ Err e) }
 {
     let global = count(ask, value, "global", LaunchNo::Missing(Key::Global))?;
     let local = count(ask, value, "local", LaunchNo::Missing(Key::Local))?;

@@ -15,6 +15,8 @@ pub enum Detail<'a> {
     Name(&'a [u8]),
     /// A number, written in decimal.
     Number(u64),
+    /// Two numbers: the first alone where the second is 1, else `[a,b]`.
+    Pair(u64, u64),
 }
 
 /// A line without its end, in four parts: so it can be written without taking memory.
@@ -126,14 +128,20 @@ impl LaunchNo {
             },
             LaunchNo::Local { global, local } => Line {
                 head: b"lift: launch: global ",
-                first: Detail::Number(*global),
+                first: Detail::Pair(global.0, global.1),
                 between: b", local ",
-                second: Detail::Number(*local),
+                second: Detail::Pair(local.0, local.1),
             },
             LaunchNo::NotTask { global } => Line {
                 head: b"lift: launch: global ",
-                first: Detail::Number(*global),
+                first: Detail::Pair(global.0, global.1),
                 between: b" for one item",
+                second: Detail::Nothing,
+            },
+            LaunchNo::NotFlat { rows } => Line {
+                head: b"lift: launch: rows ",
+                first: Detail::Number(*rows),
+                between: b" for one row",
                 second: Detail::Nothing,
             },
             LaunchNo::Shape { input } => {

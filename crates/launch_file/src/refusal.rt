@@ -37,17 +37,33 @@ pub enum LaunchNo {
     Missing(Key),
     /// The number given for a declared size is out of its range, or no multiple of its divisor.
     #[error("size {size} is {given}")]
-    Size { size: usize, given: u64 },
-    /// The local size isn't 1 to 256, the global size isn't 1 to 65,536, the local size doesn't
-    /// divide the global size, or it isn't the one that the script fixes.
-    #[error("global {global}, local {local}")]
-    Local { global: u64, local: u64 },
+    Size {
+        size: usize,
+        given: u64,
+    },
+    /// A size is 0 along a dimension, a group has more than 256 work-items, there are more than
+    /// 65,536 in all, the local size doesn't divide the global size along a dimension, or it isn't
+    /// the one that the script fixes.
+    #[error("global {global:?}, local {local:?}")]
+    Local {
+        global: (u64, u64),
+        local: (u64, u64),
+    },
     /// The program is for one work-item alone.
-    #[error("global {global} for one item")]
-    NotTask { global: u64 },
+    #[error("global {global:?} for one item")]
+    NotTask {
+        global: (u64, u64),
+    },
+    /// The program is for one row of work-items.
+    #[error("rows {rows} for one row")]
+    NotFlat {
+        rows: u64,
+    },
     /// The value at an input's name isn't of the input's type.
     #[error("input {input} has another shape")]
-    Shape { input: usize },
+    Shape {
+        input: usize,
+    },
     #[error("out of memory")]
     Memory,
 }

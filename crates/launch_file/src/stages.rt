@@ -4,6 +4,7 @@ ghost use Rattle.std.specs.Prelude.{◌≡◌, ◌≢◌, Err, IfErr, IfOk, Ok, 
 ghost use Rattle.serde_json.specs.View.{view};
 ghost use Rattle.lift_tree.specs.Programs.{program_of};
 ghost use Rattle.lift_tree.specs.Limits.{HasProperInputs};
+ghost use Rattle.launch_file.specs.LaunchFile.{ask_of};
 ghost use Rattle.launch_file.specs.Stages.{
   IsStagesFile,
   RefusesStages,
@@ -17,8 +18,8 @@ ghost use Rattle.launch_file.specs.Stages.{
 ghost use Rattle.launch_file.specs.StagesShown.{count_of, given_in_order, keys_of, values_in};
 ghost use Rattle.launch_file.specs.declared.refusal.LaunchNo.TheVariants.{Memory};
 
-use crate::file::{Ask, work_items};
-use crate::json::{discard, object_at, whole_at};
+use crate::file::{Ask, asks_in, work_items};
+use crate::json::{discard, object_at, pair_at};
 use crate::keys::schedule_at;
 use crate::refusal::{Key, LaunchNo};
 use crate::sizes::{bases_of, sizes_in};
@@ -30,11 +31,11 @@ use serde_json::{Category, Value};
 use size_arith::Sizes;
 use std::alloc::Global;
 
-/// The work-items of a kernel, in all and in a group, which lie in one row.
+/// The work-items of a kernel along each dimension, in all and in a group.
 #[derive(Clone, Copy)]
 pub struct Count {
-    pub global: u32,
-    pub local: u32,
+    pub global: (u32, u32),
+    pub local: (u32, u32),
 }
 
 /// What all kernels of a program in order share.
@@ -116,21 +117,21 @@ fn find_stage_keys<'v>(
 
 // The work-items of the kernel of this number, from its object.
 fn stage_in(number: usize, ask: Ask, value: &Value) -> Result<Count, LaunchNo>
-    ensures ok { IfOk result (λ c. stage_judged number ask (view value.now) ≡ Ok (count_of c)) }
-    ensures refused { IfErr result (λ e. stage_judged number ask (view value.now) ≡ Err e) }
+    ensures ok { IfOk result (λ c. stage_judged number (ask_of ask) (view value.now) ≡ Ok (count_of c)) }
+    ensures refused { IfErr result (λ e. stage_judged number (ask_of ask) (view value.now) ≡ Err e) }
 {
-    let global = whole_at(value, "global").ok_or(LaunchNo::Missing(Key::GlobalOf(number)))?;
-    let local = whole_at(value, "local").ok_or(LaunchNo::Missing(Key::LocalOf(number)))?;
-    let (global, local) = work_items(ask, global, local)?;
+    let global = pair_at(value, "global").ok_or(LaunchNo::Missing(Key::GlobalOf(number)))?;
+    let local = pair_at(value, "local").ok_or(LaunchNo::Missing(Key::LocalOf(number)))?;
+    let (global, local) = work_items(asks_in(ask), global, local)?;
     Ok(Count { global, local })
 }
 
 // The work-items of each kernel, in turn.
 fn stages_in(alloc: Global, asks: &[Ask], values: &[Value]) -> Result<Vec<Count>, LaunchNo>
     requires as_many { length asks.now ≡ length values.now }
-    ensures ok { let judged = stages_judged_from 0 asks.now (values_in values.now) in
+    ensures ok { let judged = stages_judged_from 0 (map ask_of asks.now) (values_in values.now) in
         IfOk result (λ cs. judged ≡ Ok (map count_of cs.items)) }
-    ensures refused { let judged = stages_judged_from 0 asks.now (values_in values.now) in
+    ensures refused { let judged = stages_judged_from 0 (map ask_of asks.now) (values_in values.now) in
         IfErr result (λ e. e ≢ Memory → judged ≡ Err e) }
 {
     let mut counts = Vec::new(alloc);
@@ -149,9 +150,9 @@ fn stages_of(
     asks: &[Ask],
 ) -> Result<StagesFile, LaunchNo>
     requires { HasProperInputs (program_of program.now) }
-    ensures ok { let judged = stages_judged (program_of program.now) asks.now (view value.now) in
+    ensures ok { let judged = stages_judged (program_of program.now) (map ask_of asks.now) (view value.now) in
         IfOk result (λ f. judged ≡ Ok (given_in_order f)) }
-    ensures refused { let judged = stages_judged (program_of program.now) asks.now (view value.now) in
+    ensures refused { let judged = stages_judged (program_of program.now) (map ask_of asks.now) (view value.now) in
         IfErr result (λ e. e ≢ Memory → judged ≡ Err e) }
 {
     if !value.is_object() {
@@ -197,9 +198,9 @@ pub fn read_stages(
 ) -> Result<StagesFile, LaunchNo>
     requires { HasProperInputs (program_of program.now) }
     ensures ok { IfOk result (λ f.
-        IsStagesFile (program_of program.now) asks.now bytes.now (given_in_order f)) }
+        IsStagesFile (program_of program.now) (map ask_of asks.now) bytes.now (given_in_order f)) }
     ensures refused { IfErr result (λ e. e ≢ Memory
-        → RefusesStages (program_of program.now) asks.now bytes.now e) }
+        → RefusesStages (program_of program.now) (map ask_of asks.now) bytes.now e) }
 {
     match Value::from_slice(alloc, bytes) {
         Ok(value) => {

@@ -1,6 +1,6 @@
 -- A spelled index expression has its value on words.
-use Rattle.std.proofs.Common.{◌≡◌, ◌≢◌, ◌∙◌, ℕ, zero, suc, ℤ, pos, ◌<◌, ◌^◌, Bool, true, false, Some, None, List, [], ◌∷◌, refl, sym, ap, subst, ⊎_elim, arith}
-use Rattle.std.specs.Prelude.{unsigned_abs, ◌==◌, ◌&&◌, if◌then◌else◌, slice_index}
+use Rattle.std.proofs.Common.{◌≡◌, ◌≢◌, ◌∙◌, ℕ, zero, suc, ℤ, pos, ◌<◌, ◌^◌, Bool, true, Some, None, List, [], ◌∷◌, refl, sym, ap, subst, arith}
+use Rattle.std.specs.Prelude.{unsigned_abs, if◌then◌else◌, slice_index}
 use Rattle.std.proofs.Math.Nat.{mod-eq_of_lt}
 use Rattle.std.proofs.lemmas.Bool.{and_parts, ne_eqb}
 use Rattle.std.proofs.lemmas.Int.{ints}
@@ -36,7 +36,9 @@ operates Greatest x y h = refl
 turn_value : (ids : Ids) (loops : List ℕ) (vars : Vars) (k : ℕ) → value ids loops vars (turn_formula k) ≡ Some (slice_index (turns_of ids loops) k)
 turn_value ids loops vars zero = refl
 turn_value ids loops vars (suc zero) = refl
-turn_value ids loops vars (suc (suc k)) = refl
+turn_value ids loops vars (suc (suc zero)) = refl
+turn_value ids loops vars (suc (suc (suc zero))) = refl
+turn_value ids loops vars (suc (suc (suc (suc k)))) = refl
 
 module _ (ids : Ids) (loops : List ℕ) (vars : Vars) (sizes_fit : AreWords ids.sizes) (turns_fit : AreWords (turns_of ids loops)) where
   abbrev Turns : List ℕ
@@ -68,7 +70,9 @@ no_turns sizes = turns_of (sizes_alone sizes) []
 no_turns_fit : (sizes : List ℕ) → AreWords (no_turns sizes)
 no_turns_fit sizes zero = omega arith
 no_turns_fit sizes (suc zero) = omega arith
-no_turns_fit sizes (suc (suc k)) = omega arith
+no_turns_fit sizes (suc (suc zero)) = omega arith
+no_turns_fit sizes (suc (suc (suc zero))) = omega arith
+no_turns_fit sizes (suc (suc (suc (suc k)))) = omega arith
 
 is_word : (z : ℤ) (n : ℕ) → z ≡ pos n → n < 2 ^ 32 → IsWord z
 is_word z n e lt = (omega (arith, ints), omega (arith, ints))
@@ -76,7 +80,9 @@ is_word z n e lt = (omega (arith, ints), omega (arith, ints))
 turn_varies : (k : ℕ) → is_constant (turn_formula k) ≡ true → ⊥
 turn_varies zero h = absurd (cc)
 turn_varies (suc zero) h = absurd (cc)
-turn_varies (suc (suc k)) h = absurd (cc)
+turn_varies (suc (suc zero)) h = absurd (cc)
+turn_varies (suc (suc (suc zero))) h = absurd (cc)
+turn_varies (suc (suc (suc (suc k)))) h = absurd (cc)
 
 -- what has no variables has its value at whatever turns
 module _ (ids : Ids) (loops : List ℕ) (vars : Vars) where

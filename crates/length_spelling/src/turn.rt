@@ -9,10 +9,10 @@ use kernel_tree::tree::{Dimension, Expr, IdForm};
 /// A turn that a work-item is in.
 #[derive(Clone, Copy)]
 pub enum Turn {
-    /// Its group's, in the launch: the group's id.
-    Group,
-    /// Its own, in its group: its id there.
-    Local,
+    /// Its group's, in the launch, along a dimension: the group's id.
+    Group(Dimension),
+    /// Its own, in its group, along a dimension: its id there.
+    Local(Dimension),
     /// That of the loop that stands within so many others.
     Loop(u32),
 }
@@ -23,21 +23,26 @@ impl Turn {
         ensures { number_of result ≡ number }
     {
         match number {
-            0 => Turn::Group,
-            1 => Turn::Local,
-            _ => Turn::Loop(number - 2),
+            0 => Turn::Group(Dimension::X),
+            1 => Turn::Local(Dimension::X),
+            2 => Turn::Group(Dimension::Y),
+            3 => Turn::Local(Dimension::Y),
+            _ => Turn::Loop(number - 4),
         }
     }
 
-    /// Its number, as an index expression's variable: 0 for the group's, 1 for the item's own, and
-    /// then those of the loops. The last two loops that a `u32` names have none.
+    /// Its number, as an index expression's variable: 0 for the group's and 1 for the item's own
+    /// along a row, 2 and 3 for those from row to row, and then those of the loops. The last four
+    /// loops that a `u32` names have none.
     pub fn number(self) -> Option<u32>
         ensures { result ≡ as_number (number_of self) }
     {
         match self {
-            Turn::Group => Some(0),
-            Turn::Local => Some(1),
-            Turn::Loop(depth) => depth.checked_add(2),
+            Turn::Group(Dimension::X) => Some(0),
+            Turn::Local(Dimension::X) => Some(1),
+            Turn::Group(Dimension::Y) => Some(2),
+            Turn::Local(Dimension::Y) => Some(3),
+            Turn::Loop(depth) => depth.checked_add(4),
         }
     }
 
@@ -46,8 +51,8 @@ impl Turn {
         ensures { formula_of result ≡ turn_formula (number_of self) }
     {
         match self {
-            Turn::Group => Expr::Id(Dimension::X, IdForm::GroupId),
-            Turn::Local => Expr::Id(Dimension::X, IdForm::LocalId),
+            Turn::Group(dimension) => Expr::Id(dimension, IdForm::GroupId),
+            Turn::Local(dimension) => Expr::Id(dimension, IdForm::LocalId),
             Turn::Loop(depth) => Expr::LoopVariable(depth),
         }
     }

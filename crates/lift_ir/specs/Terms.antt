@@ -12,9 +12,11 @@ pub data LoadSet : Type 0 where
   Each : (left right : LoadSet) → LoadSet
 
 -- how a map is run: over the launch, over its work-groups, over the work-items
--- of a group, or by one work-item
+-- of a group, or by one work-item; and the first three over the rows of these, around such a map
+-- along a row
 pub data Kind : Type 0 where
   Global WorkGroup Local Sequential : Kind
+  GlobalRows WorkGroupRows LocalRows : Kind
 
 -- where a copy lies: in a work-group's local memory, or in a work-item's private memory
 pub data Space : Type 0 where

@@ -1,5 +1,5 @@
 -- Why calls end as they do: each cause excludes the others, and what is well formed.
-use Rattle.std.proofs.Common.{Bool, ◌≡◌, ◌≢◌, ◌⊎◌, ◌∙◌, ◌<◌, ◌≤◌, ℕ, List, [], ◌∷◌, ap, ap₂, sym, subst, length, inl, inr, refl, arith, Option, None, Some, Err}
+use Rattle.std.proofs.Common.{◌≡◌, ◌≢◌, ◌⊎◌, ◌∙◌, ◌<◌, ◌≤◌, ℕ, List, [], ◌∷◌, ap, ap₂, sym, subst, length, inl, inr, refl, arith, Option, None, Some, Err}
 use Rattle.std.specs.Prelude.{IfSome, option_map}
 use Rattle.std.proofs.lemmas.Option.{same_Some}
 use Rattle.command_line.specs.Requests.{Asks, CommandLine, IsRefused, demo, line_entered}
@@ -12,9 +12,9 @@ use Rattle.strategy_script.specs.declared.script.ScriptNo.TheVariants as scripts
 use Rattle.kernel_sequence.specs.declared.no.CutNo.TheVariants as cuts
 use Rattle.thread_mapping.specs.declared.judging.NestNo.TheVariants as nests
 use Rattle.buffer_allocation.specs.declared.buffers.AllocNo.TheVariants as allocations
-use Rattle.launch_file.specs.LaunchFile.{Given, IsLaunchFile}
-use Rattle.launch_file.specs.Stages.{GivenInOrder, IsStagesFile}
-use Rattle.launch_file.specs.declared.file.Ask.TheVariants as asks
+use Rattle.launch_file.specs.LaunchFile as asks
+use Rattle.launch_file.specs.LaunchFile.{IsLaunchFile}
+use Rattle.launch_file.specs.Stages.{IsStagesFile}
 use Rattle.launch_file.specs.declared.refusal.LaunchNo.{LaunchNo}
 use Rattle.launch_file.specs.declared.refusal.LaunchNo.TheVariants as no
 use Rattle.fault_lines.specs.Failure.{Failure, Memory, Read, TooLong, launch_failed, line_of, source_failed, status_of}
@@ -40,27 +40,15 @@ texts_accepted : StagesEndOnce → (command : Command) (texts : List (List ℕ))
 texts_accepted law (Demo seed) texts f ok h = h
 texts_accepted law command texts f ok h = (law command texts).none f ok h
 
--- the launch file of what is asked
-as_asked :
-    (p : PlainProgram) (a b : Bool) (o q : Option ℕ) (launch : List ℕ) (g : Given) → a ≡ b → o ≡ q → IsLaunchFile p (asks.Run b q) launch g
-    → IsLaunchFile p (asks.Run a o) launch g
-as_asked p a b o q launch g alone local is = subst (λ x. IsLaunchFile p (asks.Run a x) launch g) (sym local) (subst (λ x. IsLaunchFile p (asks.Run x q) launch g) (sym alone) is)
-
--- that of what is asked for kernels in order
-all_asked :
-    (p : PlainProgram) (os qs : List Outline) (o q : Option ℕ) (launch : List ℕ) (g : GivenInOrder) → os ≡ qs → o ≡ q → IsStagesFile p (asks_in_order qs o) launch g
-    → IsStagesFile p (asks_in_order os q) launch g
-all_asked p os qs o q launch g outlined local is = subst (λ x. IsStagesFile p (asks_in_order os x) launch g) local (subst (λ x. IsStagesFile p (asks_in_order x o) launch g) (sym outlined) is)
-
 -- what was written was accepted
 written_accepted : (command : Command) (texts : List (List ℕ)) (text : List ℕ) → Writes command texts text → Takes command texts
 written_accepted Compile texts text h = let c = h.compiled in (h.source, c.read.is, c.read.within, (tt, (c.last, c.legal)))
-written_accepted (Run traced) texts text h = let c = h.compiled in (h.source, c.read.is, c.read.within, (tt, (h.given, (c.last, c.legal, as_asked h.source _ _ _ _ _ h.given (ap (λ (x : launches.Asks). x.alone) c.asked) (ap (λ (x : launches.Asks). x.local) c.asked) h.launch_file))))
+written_accepted (Run traced) texts text h = let c = h.compiled in (h.source, c.read.is, c.read.within, (tt, (h.given, (c.last, c.legal, subst (λ (a : launches.Asks). IsLaunchFile h.source (asks.Run a) (text_at texts 2) h.given) (sym c.asked) h.launch_file))))
 written_accepted (Cost items) texts text h = (h.source, h.read.is, h.read.within, (tt, (h.given, (h.last, h.legal, h.launch_file))))
 written_accepted Eval texts text h = (h.source, h.read.is, h.read.within, (tt, (h.given, h.started)))
 written_accepted Steps texts text h = (h.source, h.read.is, h.read.within, (tt, (h.terms, h.made)))
 written_accepted Stages texts text h = let c = h.compiled in (h.source, c.read.is, c.read.within, (tt, (c.parts, c.compiled)))
-written_accepted RunStages texts text h = let c = h.compiled in (h.source, c.read.is, c.read.within, (tt, (h.given, (c.parts, c.compiled, all_asked h.source _ _ _ _ _ h.given c.outlined c.fixed h.launch_file))))
+written_accepted RunStages texts text h = let c = h.compiled in (h.source, c.read.is, c.read.within, (tt, (h.given, (c.parts, c.compiled, subst (λ (os : List Outline). IsStagesFile h.source (asks_in_order os) (text_at texts 2) h.given) (sym c.outlined) h.launch_file))))
 written_accepted (Demo seed) texts text h = tt
 
 -- ---- files

@@ -1,5 +1,5 @@
 -- Layouts, case by case: of what type a layout's operand and its result are, and its value.
-use Rattle.std.proofs.Common.{◌≡◌, ℕ, ◌-◌, ◌*◌, ◌/◌, ◌<◌, ◌≤◌, List, length, refl, sym, ap, ◌∙◌, subst, arith, ℤ, pos, ◌*ℤ◌, ◌≤ℤ◌, inl, inr}
+use Rattle.std.proofs.Common.{◌≡◌, ℕ, ◌/◌, ◌<◌, ◌≤◌, List, length, refl, sym, ap, ◌∙◌, subst, arith, pos, ◌*ℤ◌, ◌≤ℤ◌, inl, inr}
 use Rattle.std.specs.Prelude.{reverse, ◌⊎◌}
 use Rattle.std.proofs.lemmas.List.{length-reverse}
 use Rattle.std.proofs.lemmas.Int.{ints}

@@ -5,6 +5,7 @@
 //! what the limits on types count.
 #![tactic(auto)]
 
+pub mod asks;
 pub mod input_type;
 pub mod laws;
 pub mod layout;

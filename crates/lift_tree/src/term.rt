@@ -62,17 +62,33 @@ pub enum BinaryForm {
     Reduce(Reducer),
 }
 
+/// What a map spreads its turns over.
+#[derive(Clone, Copy, Debug, PartialEq, Eq)]
+pub enum Level {
+    /// The work-items of all groups.
+    Launch,
+    /// The work-groups.
+    Groups,
+    /// The work-items of a group.
+    Items,
+}
+
+/// A dimension of the index space (OpenCL C 1.2, section 6.12.1).
+#[derive(Clone, Copy, Debug, PartialEq, Eq)]
+pub enum Dimension {
+    /// Dimension 0, along a row.
+    X,
+    /// Dimension 1, from row to row.
+    Y,
+}
+
 /// How a map is run. All kinds have the same value.
 #[derive(Clone, Copy, Debug, PartialEq, Eq)]
 pub enum MapKind {
     /// Not yet decided: the map of a program.
     Plain,
-    /// Over the work-items of all groups.
-    Global,
-    /// Over the work-groups.
-    WorkGroup,
-    /// Over the work-items of a group.
-    Local,
+    /// Over work-items or work-groups, along a dimension.
+    Over(Level, Dimension),
     /// By one work-item.
     Sequential,
 }

@@ -1,21 +1,25 @@
 -- Who runs a term.
-use Rattle.std.specs.Prelude.{Bool, false, if◌then◌else◌}
 use Rattle.lift_tree.specs.declared.term.MapKind.{MapKind}
+use Rattle.lift_tree.specs.declared.term.MapKind.TheVariants.{Plain, Over, Sequential}
+use Rattle.lift_tree.specs.declared.term.Level.TheVariants.{Launch, Groups, Items}
+use Rattle.lift_tree.specs.declared.term.Dimension.TheVariants.{X, Y}
 use Rattle.lift_tree.specs.declared.term.UnaryForm.TheVariants.{Layout}
 use Rattle.lift_tree.specs.Tree.{Tree, Unary, Let, Map}
-use Rattle.lowered_tree.specs.Kinds.{is_global, is_over_groups}
 use Rattle.lowered_tree.specs.declared.kind.NestKind.{NestKind}
-use Rattle.lowered_tree.specs.declared.kind.NestKind.TheVariants.{Task, OverLaunch, OverGroups}
+use Rattle.lowered_tree.specs.declared.kind.NestKind.TheVariants.{Task, OverLaunch, OverGroups, OverGrid}
 
--- seen through layouts that are written through and the bodies of lets, a map of such a kind
-abbrev pub shows_map : (MapKind → Bool) → Tree → Bool
-shows_map p (Unary (Layout l) t) = shows_map p t
-shows_map p (Let v b) = shows_map p b
-shows_map p (Map k xs b) = p k
-shows_map p _ = false
+-- whom a map of this kind spreads its turns over
+abbrev pub spread_over : MapKind → NestKind
+spread_over Plain = Task
+spread_over (Over Launch d) = OverLaunch
+spread_over (Over Groups X) = OverGroups
+spread_over (Over Groups Y) = OverGrid
+spread_over (Over Items d) = Task
+spread_over Sequential = Task
 
--- whom the map on top spreads its turns over
+-- and the map on top, seen through layouts that are written through and the bodies of lets
 abbrev pub nest_kind : Tree → NestKind
-nest_kind t =
-    if shows_map is_over_groups t then OverGroups else
-    (if shows_map is_global t then OverLaunch else Task)
+nest_kind (Unary (Layout l) t) = nest_kind t
+nest_kind (Let v b) = nest_kind b
+nest_kind (Map k xs b) = spread_over k
+nest_kind _ = Task

@@ -1,5 +1,6 @@
 pub mod Elements
 pub mod Kinds
+pub mod Pairs
 pub mod Around
 pub mod Forms
 pub mod Nest

@@ -1,15 +1,16 @@
--- Which nests of maps, folds and copies can be printed: eleven rules, and one before them, each
+-- Which nests of maps, folds and copies can be printed: twelve rules, and one before them, each
 -- broken at single nodes, and one of the whole.
-use Rattle.std.specs.Prelude.{◌≡◌, ◌↔◌, ℕ, Bool, false, not, ◌&&◌, ◌||◌, List, [], ◌∷◌, ◌++◌, map, nat_lt, Option, Some, None, if◌then◌else◌}
+use Rattle.std.specs.Prelude.{◌≡◌, ◌↔◌, ℕ, ◌*◌, Bool, false, not, ◌&&◌, ◌||◌, List, [], ◌∷◌, ◌++◌, map, nat_lt, Option, Some, None, if◌then◌else◌}
 use Rattle.lift_tree.specs.Tree.{Tree, Unary, Binary, Select, Let, Map, Fold}
 use Rattle.lift_tree.specs.Annotations.{Annotation, One, Two, Three, type_in}
 use Rattle.lift_tree.specs.Lists.{Every}
 use Rattle.lowered_tree.specs.declared.around.Around.{Around}
 use Rattle.lowered_tree.specs.declared.rule.NestRule.{NestRule}
-use Rattle.lowered_tree.specs.declared.rule.NestRule.TheVariants.{N1, N2, N3, N4, N5, N6, N7, N8, N9, N10, N11, N12, N13}
+use Rattle.lowered_tree.specs.declared.rule.NestRule.TheVariants.{N1, N2, N3, N4, N5, N6, N7, N8, N9, N10, N11, N12, N13, N14}
 use Rattle.lift_tree.specs.Types.{is_element}
 use Rattle.lowered_tree.specs.Elements.{hangs_on_sizes}
-use Rattle.lowered_tree.specs.Kinds.{is_global, is_over_groups, is_local, is_sequential, is_parallel, is_task}
+use Rattle.lowered_tree.specs.Kinds.{is_global, is_over_groups, is_local, is_sequential, is_parallel, is_task, has_rows}
+use Rattle.lowered_tree.specs.Pairs.{is_awaited, is_unpaired}
 use Rattle.lowered_tree.specs.Forms.{is_map_of, is_undecided, is_lowered_map, is_lowered_fold, is_local_copy, is_private_copy, copies_local_map, is_let_of_element, is_let_of_array, is_read_alone, is_placed, is_then}
 use Rattle.lowered_tree.specs.Around.{at_root, operand, under_form, argument, let_body, map_body, fold_body}
 
@@ -50,7 +51,7 @@ sites s (Let v b) (Two a n m) =
     ++ under 1 (sites (let_body s (is_element (type_in n)) a) b m))
 sites s (Map h xs b) (Two a n m) =
     record { place = []; around = s; tree = Map h xs b; types = Two a n m }
-    ∷ (under 0 (sites (argument s false a) xs n) ++ under 1 (sites (map_body s h a) b m))
+    ∷ (under 0 (sites (argument s false a) xs n) ++ under 1 (sites (map_body s h b a) b m))
 sites s (Fold h xs z b) (Three a n m k) =
     record { place = []; around = s; tree = Fold h xs z b; types = Three a n m k }
     ∷
@@ -72,14 +73,19 @@ root_site t n = site_at (at_root t) t n
 -- the whole, and no node breaks it
 abbrev pub breaks : NestRule → Around → Tree → Annotation → Bool
 breaks N1 s t n = is_undecided t
-breaks N2 s t n = is_map_of is_local t && not s.is_next_to_group
-breaks N3 s t n = (is_map_of is_global t || is_map_of is_over_groups t) && s.in_parallel
+breaks N2 s t n =
+    is_map_of is_local t && not s.is_next_to_group && not (is_awaited s.awaited t)
+breaks N3 s t n =
+    (is_map_of is_global t || is_map_of is_over_groups t) && s.in_parallel
+    && not (is_awaited s.awaited t)
 breaks N4 s t n =
-    (s.in_group && not s.in_local)
+    (s.in_group && not s.in_local && not s.is_between)
     &&
     (is_map_of is_sequential t || is_lowered_fold t || (s.is_written && is_element (type_in n))
     || is_let_of_element t n)
-breaks N5 s t n = is_local_copy t && (not s.in_group || s.in_local || not (copies_local_map t))
+breaks N5 s t n =
+    is_local_copy t
+    && (not s.in_group || s.in_local || s.in_rows || not (copies_local_map t))
 breaks N6 s t n = is_local_copy t && hangs_on_sizes (type_in n)
 breaks N7 s t n =
     (s.in_argument && (is_lowered_map t || is_lowered_fold t || is_let_of_element t n))
@@ -90,6 +96,7 @@ breaks N10 s t n = (s.is_written && not (is_element (type_in n))) && is_read_alo
 breaks N11 s t n = (s.is_written && not (is_element (type_in n))) && is_placed t
 breaks N12 s t n = false
 breaks N13 s t n = is_then t
+breaks N14 s t n = s.is_paired && is_unpaired s.awaited t
 
 -- the rule is broken at the site
 abbrev pub broken_at : NestRule → Site → Bool
@@ -113,7 +120,7 @@ earliest_rules = N13 ∷ []
 
 -- all other rules that a node breaks
 abbrev pub later_rules : List NestRule
-later_rules = N1 ∷ N2 ∷ N3 ∷ N4 ∷ N5 ∷ N6 ∷ N7 ∷ N8 ∷ N9 ∷ N10 ∷ N11 ∷ []
+later_rules = N1 ∷ N2 ∷ N3 ∷ N4 ∷ N5 ∷ N6 ∷ N7 ∷ N8 ∷ N9 ∷ N10 ∷ N11 ∷ N14 ∷ []
 
 -- the first of these rules that is broken at the node
 abbrev pub lowest : List NestRule → Site → Option NestRule
@@ -138,13 +145,15 @@ first_broken rs (x ∷ xs) = first_of (at_place x.place (lowest rs x)) (first_br
 
 -- ---- a fixed local size
 
--- a group would have more than one item, and all but one would do nothing: no map is parallel
-abbrev pub leaves_items_idle : Option ℕ → Tree → Bool
-leaves_items_idle (Some size) t = nat_lt 1 size && is_task t
+-- a group would have more than one item, and all but one would do nothing, since no map is parallel;
+-- or more than one row of items, and all but one would, since none is along dimension 1
+abbrev pub leaves_items_idle : Option (ℕ × ℕ) → Tree → Bool
+leaves_items_idle (Some size) t =
+    (nat_lt 1 (size.0 * size.1) && is_task t) || (nat_lt 1 size.1 && not (has_rows t))
 leaves_items_idle None t = false
 
 -- the rule that a fixed local size breaks
-abbrev pub size_rule : Option ℕ → Tree → Option NestRule
+abbrev pub size_rule : Option (ℕ × ℕ) → Tree → Option NestRule
 size_rule local t = if leaves_items_idle local t then Some N12 else None
 
 -- of the whole's nodes the first at which one of the later rules is broken, where this one is tried
@@ -157,18 +166,18 @@ first_broken_with whole (root ∷ xs) =
 
 -- with this local size, where one is fixed, the first cut in preorder, or else the first node at
 -- which a rule is broken, and the lowest such rule
-abbrev pub nest_fault : Option ℕ → Tree → Annotation → Option (List ℕ × NestRule)
+abbrev pub nest_fault : Option (ℕ × ℕ) → Tree → Annotation → Option (List ℕ × NestRule)
 nest_fault local t n =
     first_of (first_broken earliest_rules (sites (at_root t) t n))
     (first_broken_with (size_rule local t) (sites (at_root t) t n))
 
 -- the nest is legal, and no item of a fixed local size is idle
-pub record IsLegalWith (local : Option ℕ) (t : Tree) (n : Annotation) : Type 0 where
+pub record IsLegalWith (local : Option (ℕ × ℕ)) (t : Tree) (n : Annotation) : Type 0 where
   pub nest : IsLegalNest t n
   pub size : leaves_items_idle local t ≡ false
 
 -- where there is none the nest is legal with the local size, and else it isn't
 abbrev pub LegalWithoutFault : Type 0
 LegalWithoutFault =
-    (local : Option ℕ) (t : Tree) (n : Annotation)
+    (local : Option (ℕ × ℕ)) (t : Tree) (n : Annotation)
     → (nest_fault local t n ≡ None) ↔ IsLegalWith local t n

@@ -1,12 +1,17 @@
 //! What is around a node of a term.
 
-ghost use Rattle.std.specs.Prelude.{◌≡◌};
+ghost use Rattle.std.specs.Prelude.{◌≡◌, ◌&&◌};
 ghost use Rattle.lift_tree.specs.Types.{ty_of, is_element};
+ghost use Rattle.lift_tree.specs.FixedSizes.{asked, size_fixed};
 ghost use Rattle.lift_tree.specs.Tree.{tree_of};
-ghost use Rattle.lowered_tree.specs.Kinds.{is_parallel, is_task};
-ghost use Rattle.lowered_tree.specs.Around.{at_root, operand, passed, copied, under_form, argument, let_body, map_body, fold_body};
+ghost use Rattle.lowered_tree.specs.Kinds.{asks_of, has_rows, is_local, is_of_level, is_over_rows, is_parallel, is_sequential, is_task};
+ghost use Rattle.lowered_tree.specs.Pairs.{pair_begun, shows_row};
+ghost use Rattle.lowered_tree.specs.Around.{at_root, operand, passed, copied, under_form, argument, let_body, outer_body, own_body, map_body, fold_body};
 
-use lift_tree::term::{MapKind, Term, UnaryForm};
+use lift_tree::asks::Asks;
+use lift_tree::layout::Layout;
+use lift_tree::local_size::LocalSize;
+use lift_tree::term::{Dimension, Level, MapKind, Term, UnaryForm};
 use lift_tree::ty::Ty;
 
 /// Which memory holds what a node computes, after the address spaces of OpenCL 1.2, section 6.5.
@@ -43,6 +48,16 @@ pub struct Around {
     pub is_next_to_group: bool,
     /// It is in the body of a sequential map, or of a let of an element.
     pub in_serial: bool,
+    /// The whole term has a map along dimension 1, so that its parallel maps are pairs.
+    pub is_paired: bool,
+    /// A map of this level along dimension 0 is due here: the node is the body of such a map along
+    /// dimension 1, seen through join, split and transpose.
+    pub awaited: Option<Level>,
+    /// It stands between the two maps of a pair: in the outer one's body, and not in the inner
+    /// one's.
+    pub is_between: bool,
+    /// It is in the body of a map over a group's items along dimension 1.
+    pub in_rows: bool,
     /// Where what is written here goes: to the nearest copy around it, else to the output.
     pub space: AddressSpace,
 }
@@ -52,7 +67,27 @@ pub fn is_parallel(kind: MapKind) -> bool
     ensures { result ≡ is_parallel kind }
 {
     match kind {
-        MapKind::Global | MapKind::WorkGroup | MapKind::Local => true,
+        MapKind::Over(_, _) => true,
+        MapKind::Plain | MapKind::Sequential => false,
+    }
+}
+
+/// Whether one work-item runs a map of this kind.
+pub fn is_sequential(kind: MapKind) -> bool
+    ensures { result ≡ is_sequential kind }
+{
+    match kind {
+        MapKind::Sequential => true,
+        MapKind::Over(_, _) | MapKind::Plain => false,
+    }
+}
+
+/// Whether a map of this kind spreads its turns over this, along either dimension.
+pub fn is_of_level(kind: MapKind, level: Level) -> bool
+    ensures { result ≡ is_of_level level kind }
+{
+    match kind {
+        MapKind::Over(own, _) => own == level,
         MapKind::Plain | MapKind::Sequential => false,
     }
 }
@@ -67,6 +102,73 @@ pub fn is_task(term: &Term) -> bool
         Term::Binary(_, a, b) | Term::Let(a, b) => is_task(a) && is_task(b),
         Term::Select(a, b, c) | Term::Fold(_, a, b, c) => is_task(a) && is_task(b) && is_task(c),
         Term::Map(kind, array, body) => !is_parallel(*kind) && is_task(array) && is_task(body),
+    }
+}
+
+/// Whether a map of this kind goes along dimension 1.
+pub fn is_over_rows(kind: MapKind) -> bool
+    ensures { result ≡ is_over_rows kind }
+{
+    match kind {
+        MapKind::Over(_, Dimension::Y) => true,
+        MapKind::Over(_, Dimension::X) | MapKind::Plain | MapKind::Sequential => false,
+    }
+}
+
+// Whether a map of this kind goes over the rows of a group's items.
+fn is_over_item_rows(kind: MapKind) -> bool
+    ensures { result ≡ (is_local kind && is_over_rows kind) }
+{
+    is_of_level(kind, Level::Items) && is_over_rows(kind)
+}
+
+/// Whether the term has a map along dimension 1.
+pub fn has_rows(term: &Term) -> bool
+    ensures { result ≡ has_rows (tree_of term.now) }
+{
+    match term {
+        Term::Variable(_) | Term::Number(_) | Term::Input(_) => false,
+        Term::Unary(_, a) => has_rows(a),
+        Term::Binary(_, a, b) | Term::Let(a, b) => has_rows(a) || has_rows(b),
+        Term::Select(a, b, c) | Term::Fold(_, a, b, c) => has_rows(a) || has_rows(b) || has_rows(c),
+        Term::Map(kind, array, body) => is_over_rows(*kind) || has_rows(array) || has_rows(body),
+    }
+}
+
+// Whether it is a map of this level along dimension 0, seen through join, split and transpose.
+fn shows_row(level: Level, term: &Term) -> bool
+    ensures { result ≡ shows_row level (tree_of term.now) }
+{
+    match term {
+        Term::Unary(UnaryForm::Layout(Layout::Split(_) | Layout::Join | Layout::Transpose), a) => {
+            shows_row(level, a)
+        }
+        Term::Map(kind, _, _) => *kind == MapKind::Over(level, Dimension::X),
+        _ => false,
+    }
+}
+
+/// The level of the pair of maps that a map of this kind with this body begins, where it begins
+/// one: it goes along dimension 1, and its body, seen through join, split and transpose, is a map
+/// of the same level along dimension 0.
+pub fn pair_begun(kind: MapKind, body: &Term) -> Option<Level>
+    ensures { result ≡ pair_begun kind (tree_of body.now) }
+{
+    match kind {
+        MapKind::Over(level, Dimension::Y) if shows_row(level, body) => Some(level),
+        _ => None,
+    }
+}
+
+/// What a term asks of each launch, with the local size that its script fixes.
+pub fn asks_of(term: &Term, local: Option<LocalSize>) -> Asks
+    ensures { asked result ≡ asks_of (size_fixed local) (tree_of term.now) }
+{
+    let alone = is_task(term);
+    Asks {
+        alone,
+        flat: !alone && !has_rows(term),
+        local,
     }
 }
 
@@ -86,6 +188,10 @@ impl Around {
             in_parallel: false,
             is_next_to_group: false,
             in_serial: false,
+            is_paired: has_rows(term),
+            awaited: None,
+            is_between: false,
+            in_rows: false,
             space: AddressSpace::Global,
         }
     }
@@ -98,18 +204,25 @@ impl Around {
         Around {
             is_written: false,
             in_element: self.in_element || parent.is_element(),
+            awaited: None,
             ..self
         }
     }
 
     /// What is around the operand of a layout that is written through, which
-    /// is written where the layout is.
-    pub fn passed(self, parent: &Ty) -> Around
-        ensures { result ≡ passed self (ty_of parent.now) }
+    /// is written where the layout is. A pair's inner map is seen through join, split and transpose
+    /// alone.
+    pub fn passed(self, layout: &Layout, parent: &Ty) -> Around
+        ensures { result ≡ passed self layout.now (ty_of parent.now) }
     {
+        let awaited = match layout {
+            Layout::Split(_) | Layout::Join | Layout::Transpose => self.awaited,
+            Layout::Reverse | Layout::Stride(_) => None,
+        };
         Around {
             is_written: self.is_written && !parent.is_element(),
             in_element: self.in_element || parent.is_element(),
+            awaited,
             ..self
         }
     }
@@ -122,6 +235,7 @@ impl Around {
             is_written: true,
             in_argument: false,
             in_element: self.in_element || parent.is_element(),
+            awaited: None,
             space,
             ..self
         }
@@ -132,7 +246,7 @@ impl Around {
         ensures { result ≡ under_form self form.now (ty_of parent.now) }
     {
         match form {
-            UnaryForm::Layout(_) => self.passed(parent),
+            UnaryForm::Layout(layout) => self.passed(layout, parent),
             UnaryForm::ToLocal => self.copied(AddressSpace::Local, parent),
             UnaryForm::ToPrivate => self.copied(AddressSpace::Private, parent),
             UnaryForm::Div(_)
@@ -154,6 +268,7 @@ impl Around {
             is_written: false,
             in_argument: self.in_argument || !of_element,
             in_element: self.in_element || parent.is_element(),
+            awaited: None,
             ..self
         }
     }
@@ -166,17 +281,33 @@ impl Around {
             is_written: self.is_written && !parent.is_element(),
             in_element: self.in_element || parent.is_element(),
             in_serial: self.in_serial || of_element,
+            awaited: None,
             ..self
         }
     }
 
-    /// What is around a map's body.
-    pub fn map_body(self, kind: MapKind, parent: &Ty) -> Around
-        ensures { result ≡ map_body self kind (ty_of parent.now) }
+    /// What is around the body of a map that begins a pair of this level: the pair is one map, whose
+    /// body is the inner one's.
+    fn outer_body(self, level: Level, parent: &Ty) -> Around
+        ensures { result ≡ outer_body self level (ty_of parent.now) }
     {
-        let is_global = kind == MapKind::Global;
-        let is_group = kind == MapKind::WorkGroup;
-        let is_local = kind == MapKind::Local;
+        Around {
+            is_written: true,
+            in_element: self.in_element || parent.is_element(),
+            awaited: Some(level),
+            is_between: true,
+            in_rows: self.in_rows || level == Level::Items,
+            ..self
+        }
+    }
+
+    /// What is around the body of a map that begins no pair.
+    fn own_body(self, kind: MapKind, parent: &Ty) -> Around
+        ensures { result ≡ own_body self kind (ty_of parent.now) }
+    {
+        let is_global = is_of_level(kind, Level::Launch);
+        let is_group = is_of_level(kind, Level::Groups);
+        let is_local = is_of_level(kind, Level::Items);
         Around {
             is_written: true,
             in_argument: self.in_argument,
@@ -186,8 +317,22 @@ impl Around {
             in_local: self.in_local || is_local,
             in_parallel: self.in_parallel || is_parallel(kind),
             is_next_to_group: is_group,
-            in_serial: self.in_serial || kind == MapKind::Sequential,
+            in_serial: self.in_serial || is_sequential(kind),
+            is_paired: self.is_paired,
+            awaited: None,
+            is_between: false,
+            in_rows: self.in_rows || is_over_item_rows(kind),
             space: self.space,
+        }
+    }
+
+    /// What is around the body of a map with this body.
+    pub fn map_body(self, kind: MapKind, body: &Term, parent: &Ty) -> Around
+        ensures { result ≡ map_body self kind (tree_of body.now) (ty_of parent.now) }
+    {
+        match pair_begun(kind, body) {
+            Some(level) => self.outer_body(level, parent),
+            None => self.own_body(kind, parent),
         }
     }
 
@@ -199,6 +344,7 @@ impl Around {
             is_written: false,
             in_element: self.in_element || parent.is_element(),
             is_next_to_group: false,
+            awaited: None,
             ..self
         }
     }

@@ -6,10 +6,11 @@ ghost use Rattle.lift_tree.specs.Types.{ty_of};
 ghost use Rattle.lift_tree.specs.Annotations.{annotation_of};
 ghost use Rattle.lowered_tree.specs.Elements.{names_a_size, is_over_sizes, hangs_on_sizes};
 ghost use Rattle.lowered_tree.specs.Kinds.{is_global, is_local, is_over_groups, is_parallel, is_sequential};
+ghost use Rattle.lowered_tree.specs.Pairs.{is_awaited, is_unpaired};
 ghost use Rattle.lowered_tree.specs.Forms.{is_map_of, is_undecided, is_lowered_map, is_lowered_fold, is_local_copy, is_private_copy, shows_local_map, copies_local_map, is_let_of_element, is_let_of_array, is_read_alone, is_placed, is_then};
 
-use crate::around::is_parallel;
-use lift_tree::term::{BinaryForm, FoldKind, MapKind, Term, UnaryForm};
+use crate::around::{is_of_level, is_parallel, is_sequential, pair_begun};
+use lift_tree::term::{BinaryForm, Dimension, FoldKind, Level, MapKind, Term, UnaryForm};
 use lift_tree::ty::Ty;
 use lift_tree::typed::NodeTypes;
 use size_arith::Monomial;
@@ -48,7 +49,7 @@ pub fn is_local_map(term: &Term) -> bool
     ensures { result ≡ is_map_of is_local (tree_of term.now) }
 {
     match term {
-        Term::Map(kind, _, _) => *kind == MapKind::Local,
+        Term::Map(kind, _, _) => is_of_level(*kind, Level::Items),
         _ => false,
     }
 }
@@ -58,7 +59,7 @@ pub fn is_global_map(term: &Term) -> bool
     ensures { result ≡ is_map_of is_global (tree_of term.now) }
 {
     match term {
-        Term::Map(kind, _, _) => *kind == MapKind::Global,
+        Term::Map(kind, _, _) => is_of_level(*kind, Level::Launch),
         _ => false,
     }
 }
@@ -68,7 +69,7 @@ pub fn is_group_map(term: &Term) -> bool
     ensures { result ≡ is_map_of is_over_groups (tree_of term.now) }
 {
     match term {
-        Term::Map(kind, _, _) => *kind == MapKind::WorkGroup,
+        Term::Map(kind, _, _) => is_of_level(*kind, Level::Groups),
         _ => false,
     }
 }
@@ -78,7 +79,7 @@ pub fn is_sequential_map(term: &Term) -> bool
     ensures { result ≡ is_map_of is_sequential (tree_of term.now) }
 {
     match term {
-        Term::Map(kind, _, _) => *kind == MapKind::Sequential,
+        Term::Map(kind, _, _) => is_sequential(*kind),
         _ => false,
     }
 }
@@ -89,6 +90,27 @@ pub fn is_parallel_map(term: &Term) -> bool
 {
     match term {
         Term::Map(kind, _, _) => is_parallel(*kind),
+        _ => false,
+    }
+}
+
+/// Whether the node is the inner map of a pair that is due here.
+pub fn is_awaited(awaited: Option<Level>, term: &Term) -> bool
+    ensures { result ≡ is_awaited awaited (tree_of term.now) }
+{
+    match (awaited, term) {
+        (Some(level), Term::Map(kind, _, _)) => *kind == MapKind::Over(level, Dimension::X),
+        _ => false,
+    }
+}
+
+/// Whether the node is a parallel map that is of no pair, where this inner map is due here.
+pub fn is_unpaired(awaited: Option<Level>, term: &Term) -> bool
+    ensures { result ≡ is_unpaired awaited (tree_of term.now) }
+{
+    match term {
+        Term::Map(MapKind::Over(_, Dimension::X), _, _) => !is_awaited(awaited, term),
+        Term::Map(kind, _, body) => is_parallel(*kind) && pair_begun(*kind, body).is_none(),
         _ => false,
     }
 }
@@ -163,7 +185,7 @@ fn shows_local_map(term: &Term) -> bool
     match term {
         Term::Unary(UnaryForm::Layout(_), a) => shows_local_map(a),
         Term::Let(_, body) => shows_local_map(body),
-        Term::Map(kind, _, _) => *kind == MapKind::Local,
+        Term::Map(kind, _, _) => is_of_level(*kind, Level::Items),
         _ => false,
     }
 }

@@ -4,17 +4,19 @@ ghost use Rattle.std.specs.Prelude.{◌≡◌};
 ghost use Rattle.lift_tree.specs.Tree.{tree_of};
 ghost use Rattle.lowered_tree.specs.Kind.{nest_kind};
 
-use lift_tree::term::{MapKind, Term, UnaryForm};
+use lift_tree::term::{Dimension, Level, MapKind, Term, UnaryForm};
 
 /// Who runs a term whose nest is legal.
 #[derive(Clone, Copy, PartialEq, Eq)]
 pub enum NestKind {
     /// One work-item: the term has no parallel map.
     Task,
-    /// All work-items: a `mapGlb` is on top.
+    /// All work-items: a `mapGlb` or a `mapGlb1` is on top.
     OverLaunch,
     /// Work-groups: a `mapWrg` is on top.
     OverGroups,
+    /// Rows of work-groups: a `mapWrg1` is on top.
+    OverGrid,
 }
 
 /// Who runs the term, which is told by the map on top, seen through layouts that are written
@@ -25,8 +27,16 @@ pub fn nest_kind(term: &Term) -> NestKind
     match term {
         Term::Unary(UnaryForm::Layout(_), a) => nest_kind(a),
         Term::Let(_, body) => nest_kind(body),
-        Term::Map(MapKind::Global, _, _) => NestKind::OverLaunch,
-        Term::Map(MapKind::WorkGroup, _, _) => NestKind::OverGroups,
-        _ => NestKind::Task,
+        Term::Map(MapKind::Over(Level::Launch, _), _, _) => NestKind::OverLaunch,
+        Term::Map(MapKind::Over(Level::Groups, Dimension::X), _, _) => NestKind::OverGroups,
+        Term::Map(MapKind::Over(Level::Groups, Dimension::Y), _, _) => NestKind::OverGrid,
+        Term::Map(MapKind::Over(Level::Items, _) | MapKind::Plain | MapKind::Sequential, _, _)
+        | Term::Variable(_)
+        | Term::Number(_)
+        | Term::Input(_)
+        | Term::Unary(_, _)
+        | Term::Binary(_, _, _)
+        | Term::Select(_, _, _)
+        | Term::Fold(_, _, _, _) => NestKind::Task,
     }
 }

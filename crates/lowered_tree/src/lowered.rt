@@ -53,12 +53,12 @@ impl Lowered {
     }
 }
 
-/// A lowered term whose nest is legal, and the local size of all launches, from 1 to 256, where the
-/// script fixes it.
+/// A lowered term whose nest is legal, and the local size of all launches, both numbers at least 1
+/// and their product at most 256, where the script fixes it.
 #[derive(Drop)]
 pub struct Mapped {
     pub lowered: Lowered,
-    pub local: Option<u32>,
+    pub local: Option<(u32, u32)>,
     ghost legal: { nest_fault local (tree_of lowered.term) (annotation_of lowered.types) ≡ None },
     ghost sized: { IsLocalSize local } by { Prim.hlevel props },
 }

@@ -66,7 +66,7 @@ impl<'t> Node<'t> {
             }
             (Term::Map(kind, array, body), NodeTypes::Two(ty, n, m)) => {
                 let array = node_at(around.argument(false, ty), array, n);
-                Children::Two(array, node_at(around.map_body(*kind, ty), body, m))
+                Children::Two(array, node_at(around.map_body(*kind, body, ty), body, m))
             }
             (Term::Fold(_, array, start, body), NodeTypes::Three(ty, n, m, k)) => {
                 let array = node_at(around.argument(false, ty), array, n);

@@ -1,6 +1,6 @@
 //! The rules of the nest.
 
-/// A rule that a printed term keeps. What breaks it is told with each: for all but the last a node.
+/// A rule that a printed term keeps. What breaks it is told with each: for all but `N12` a node.
 #[derive(Clone, Copy, PartialEq, Eq)]
 pub enum NestRule {
     /// A plain map, reduce or fold.
@@ -29,11 +29,14 @@ pub enum NestRule {
     N10,
     /// In writing position, and no element: a variable, an input or a copy.
     N11,
-    /// A local size above 1 that is fixed for a term without a parallel
-    /// map: of the whole, at the root.
+    /// A local size above 1 that is fixed for a term without a parallel map, or one of more than
+    /// one row for a term without a map along dimension 1: of the whole, at the root.
     N12,
     /// A cut between two kernels, in the term of one kernel.
     N13,
+    /// In a term with a map along dimension 1: such a map that begins no pair, or a parallel map
+    /// along dimension 0 that is no pair's inner one.
+    N14,
 }
 
 impl NestRule {
@@ -41,7 +44,7 @@ impl NestRule {
     pub const EARLIEST: [NestRule; 1] = [NestRule::N13];
 
     /// All other rules that a node breaks, the lowest first.
-    pub const LATER: [NestRule; 11] = [
+    pub const LATER: [NestRule; 12] = [
         NestRule::N1,
         NestRule::N2,
         NestRule::N3,
@@ -53,5 +56,6 @@ impl NestRule {
         NestRule::N9,
         NestRule::N10,
         NestRule::N11,
+        NestRule::N14,
     ];
 }

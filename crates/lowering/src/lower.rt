@@ -60,9 +60,7 @@ fn kind(kind: MapKind) -> Kind
     ensures { kind_of result ≡ spec.kind_of kind }
 {
     match kind {
-        MapKind::Global => Kind::Global,
-        MapKind::WorkGroup => Kind::WorkGroup,
-        MapKind::Local => Kind::Local,
+        MapKind::Over(level, dimension) => Kind::Over(level, dimension),
         MapKind::Plain | MapKind::Sequential => Kind::Sequential,
     }
 }

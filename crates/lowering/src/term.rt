@@ -1,6 +1,6 @@
 //! The intermediate representation as a tree.
 
-use lift_tree::term::UnaryForm;
+use lift_tree::term::{Dimension, Level, UnaryForm};
 use lift_tree::ty::Ty;
 use scalar_ops::op::Op;
 use size_arith::Poly;
@@ -8,12 +8,9 @@ use size_arith::Poly;
 /// How a map is run.
 #[derive(Clone, Copy, PartialEq, Eq)]
 pub enum Kind {
-    /// Over the launch.
-    Global,
-    /// Over its work-groups.
-    WorkGroup,
-    /// Over the work-items of a group.
-    Local,
+    /// Over the launch's work-items, its work-groups, or the work-items of a group, along a
+    /// dimension.
+    Over(Level, Dimension),
     /// By one work-item.
     Sequential,
 }

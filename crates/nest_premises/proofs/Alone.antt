@@ -1,9 +1,10 @@
 -- Where no parallel map stands in a term without a broken rule.
-use Rattle.std.proofs.Common.{◌≡◌, Bool, true, false, List, ◌∷◌, refl}
+use Rattle.std.proofs.Common.{◌≡◌, Bool, true, false, List, ◌∷◌, None, refl}
 use Rattle.std.proofs.lemmas.Bool.{and_from, or_left, not_from_false, or_parts}
 use Rattle.std.specs.Prelude.{not, ◌&&◌, ◌||◌}
 use Rattle.lift_tree.specs.declared.term.UnaryForm.TheVariants as unary
 use Rattle.lift_tree.specs.declared.term.BinaryForm.TheVariants as binary
+use Rattle.lift_tree.specs.declared.term.Level.TheVariants.{Launch, Groups, Items}
 use Rattle.lift_tree.specs.declared.term.MapKind.TheVariants as map_kind
 use Rattle.lift_tree.specs.Tree as tree
 use Rattle.lift_tree.specs.Tree.{Tree}
@@ -17,7 +18,7 @@ use Rattle.lowered_tree.specs.Elements.{hangs_on_sizes}
 use Rattle.lowered_tree.specs.Forms.{shows_local_map}
 use Rattle.lowered_tree.specs.Kinds.{is_task}
 use Rattle.nest_premises.specs.Unbroken.{AllUnbroken}
-use Rattle.nest_premises.proofs.Rules.{true_is_not_false}
+use Rattle.nest_premises.proofs.Rules.{true_is_not_false, clash, forbidden, outside, still_none, not_awaited}
 use Rattle.nest_premises.proofs.Staged.{no_map, no_fold}
 
 pub three : (x y z : Bool) → x ≡ true → y ≡ true → z ≡ true → (x && y && z) ≡ true
@@ -53,7 +54,7 @@ module _ (d : Declared) where
   argument_alone s g (tree.Unary (unary.Layout l) t) (One a n) y h w i q = argument_alone _ g t n y.0 h.1 w i q
   argument_alone s g (tree.Unary (unary.Slide j l) t) (One a n) y h w i q = argument_alone _ g t n y.0 h.1 w i q
   argument_alone s g (tree.Unary (unary.Pad j l) t) (One a n) y h w i q = argument_alone _ g t n y.0 h.1 w i q
-  argument_alone s g (tree.Unary unary.ToLocal t) (One a n) y h w i q = true_is_not_false (not s.in_group) (not_from_false s.in_group q) (or_parts (not s.in_group) s.in_local (or_parts (not s.in_group || s.in_local) (not (shows_local_map t)) (h.0 N5)).0).0
+  argument_alone s g (tree.Unary unary.ToLocal t) (One a n) y h w i q = forbidden (not s.in_group || s.in_local || s.in_rows) (not (shows_local_map t)) (h.0 N5) (outside s.in_group s.in_local s.in_rows q)
   argument_alone s g (tree.Unary unary.ToPrivate t) (One a n) y h w i q = true_is_not_false (not s.in_item) (not_from_false s.in_item i) (or_parts (not s.in_item) (hangs_on_sizes a) (h.0 N8)).0
   argument_alone s g (tree.Unary unary.Then t) (One a n) y h w i q = argument_alone _ g t n y.0 h.1 w i q
   argument_alone s g (tree.Binary f t u) (Two a n m) y h w i q = and_from _ _ (argument_alone _ g t n y.0 h.1 w i q) (argument_alone _ g u m y.1 h.2 w i q)
@@ -64,28 +65,28 @@ module _ (d : Declared) where
   argument_alone s g (tree.Fold j xs x b) (Three a n m l) y h w i q = no_fold s j xs x b a n m l h.0 w
   argument_alone s g _ _ y h w i q = absurd y
 
-  -- N2, N3: in a parallel map's body that isn't a mapWrg's
-  pub body_alone : (s : Around) (g : List PlainTy) (t : Tree) (n : Annotation) → Annotates d g t n → AllUnbroken s t n → s.in_parallel ≡ true → s.is_next_to_group ≡ false → is_task t ≡ true
-  body_alone s g (tree.Variable v) (Leaf a) y h w i = refl
-  body_alone s g (tree.Number v) (Leaf a) y h w i = refl
-  body_alone s g (tree.Input v) (Leaf a) y h w i = refl
-  body_alone s g (tree.Unary (unary.Div j) t) (One a n) y h w i = body_alone _ g t n y.0 h.1 w i
-  body_alone s g (tree.Unary (unary.Rem j) t) (One a n) y h w i = body_alone _ g t n y.0 h.1 w i
-  body_alone s g (tree.Unary unary.First t) (One a n) y h w i = body_alone _ g t n y.0 h.1 w i
-  body_alone s g (tree.Unary unary.Second t) (One a n) y h w i = body_alone _ g t n y.0 h.1 w i
-  body_alone s g (tree.Unary (unary.Layout l) t) (One a n) y h w i = body_alone _ g t n y.0 h.1 w i
-  body_alone s g (tree.Unary (unary.Slide j l) t) (One a n) y h w i = body_alone _ g t n y.0 h.1 w i
-  body_alone s g (tree.Unary (unary.Pad j l) t) (One a n) y h w i = body_alone _ g t n y.0 h.1 w i
-  body_alone s g (tree.Unary unary.ToLocal t) (One a n) y h w i = body_alone _ g t n y.0 h.1 w i
-  body_alone s g (tree.Unary unary.ToPrivate t) (One a n) y h w i = body_alone _ g t n y.0 h.1 w i
-  body_alone s g (tree.Unary unary.Then t) (One a n) y h w i = body_alone _ g t n y.0 h.1 w i
-  body_alone s g (tree.Binary f t u) (Two a n m) y h w i = and_from _ _ (body_alone _ g t n y.0 h.1 w i) (body_alone _ g u m y.1 h.2 w i)
-  body_alone s g (tree.Select t u x) (Three a n m l) y h w i = three _ _ _ (body_alone _ g t n y.0 h.1 w i) (body_alone _ g u m y.1 h.2 w i) (body_alone _ g x l y.2 h.3 w i)
-  body_alone s g (tree.Let v b) (Two a n m) y h w i = and_from _ _ (body_alone _ g v n y.0 h.1 w i) (body_alone _ (type_in n ∷ g) b m y.1 h.2 w i)
-  body_alone s g (tree.Map map_kind.Plain xs b) (Two a n m) y h w i = and_from _ _ (body_alone _ g xs n y.2 h.1 w i) (body_alone _ (y.0 ∷ g) b m y.4 h.2 (or_left s.in_parallel false w) refl)
-  body_alone s g (tree.Map map_kind.Sequential xs b) (Two a n m) y h w i = and_from _ _ (body_alone _ g xs n y.2 h.1 w i) (body_alone _ (y.0 ∷ g) b m y.4 h.2 (or_left s.in_parallel false w) refl)
-  body_alone s g (tree.Map map_kind.Global xs b) (Two a n m) y h w i = true_is_not_false s.in_parallel w (h.0 N3)
-  body_alone s g (tree.Map map_kind.WorkGroup xs b) (Two a n m) y h w i = true_is_not_false s.in_parallel w (h.0 N3)
-  body_alone s g (tree.Map map_kind.Local xs b) (Two a n m) y h w i = true_is_not_false (not s.is_next_to_group) (not_from_false s.is_next_to_group i) (h.0 N2)
-  body_alone s g (tree.Fold j xs x b) (Three a n m l) y h w i = three _ _ _ (body_alone _ g xs n y.2 h.1 w i) (body_alone _ g x m y.4 h.2 w i) (body_alone _ (y.0 ∷ type_in m ∷ g) b l y.6 h.3 w refl)
-  body_alone s g _ _ y h w i = absurd y
+  -- N2, N3: in a parallel map's body that isn't a mapWrg's, where no inner map is due
+  pub body_alone : (s : Around) (g : List PlainTy) (t : Tree) (n : Annotation) → Annotates d g t n → AllUnbroken s t n → s.in_parallel ≡ true → s.is_next_to_group ≡ false → s.awaited ≡ None → is_task t ≡ true
+  body_alone s g (tree.Variable v) (Leaf a) y h w i e = refl
+  body_alone s g (tree.Number v) (Leaf a) y h w i e = refl
+  body_alone s g (tree.Input v) (Leaf a) y h w i e = refl
+  body_alone s g (tree.Unary (unary.Div j) t) (One a n) y h w i e = body_alone _ g t n y.0 h.1 w i refl
+  body_alone s g (tree.Unary (unary.Rem j) t) (One a n) y h w i e = body_alone _ g t n y.0 h.1 w i refl
+  body_alone s g (tree.Unary unary.First t) (One a n) y h w i e = body_alone _ g t n y.0 h.1 w i refl
+  body_alone s g (tree.Unary unary.Second t) (One a n) y h w i e = body_alone _ g t n y.0 h.1 w i refl
+  body_alone s g (tree.Unary (unary.Layout l) t) (One a n) y h w i e = body_alone _ g t n y.0 h.1 w i (still_none l s.awaited e)
+  body_alone s g (tree.Unary (unary.Slide j l) t) (One a n) y h w i e = body_alone _ g t n y.0 h.1 w i refl
+  body_alone s g (tree.Unary (unary.Pad j l) t) (One a n) y h w i e = body_alone _ g t n y.0 h.1 w i refl
+  body_alone s g (tree.Unary unary.ToLocal t) (One a n) y h w i e = body_alone _ g t n y.0 h.1 w i refl
+  body_alone s g (tree.Unary unary.ToPrivate t) (One a n) y h w i e = body_alone _ g t n y.0 h.1 w i refl
+  body_alone s g (tree.Unary unary.Then t) (One a n) y h w i e = body_alone _ g t n y.0 h.1 w i refl
+  body_alone s g (tree.Binary f t u) (Two a n m) y h w i e = and_from _ _ (body_alone _ g t n y.0 h.1 w i refl) (body_alone _ g u m y.1 h.2 w i refl)
+  body_alone s g (tree.Select t u x) (Three a n m l) y h w i e = three _ _ _ (body_alone _ g t n y.0 h.1 w i refl) (body_alone _ g u m y.1 h.2 w i refl) (body_alone _ g x l y.2 h.3 w i refl)
+  body_alone s g (tree.Let v b) (Two a n m) y h w i e = and_from _ _ (body_alone _ g v n y.0 h.1 w i refl) (body_alone _ (type_in n ∷ g) b m y.1 h.2 w i refl)
+  body_alone s g (tree.Map map_kind.Plain xs b) (Two a n m) y h w i e = and_from _ _ (body_alone _ g xs n y.2 h.1 w i refl) (body_alone _ (y.0 ∷ g) b m y.4 h.2 (or_left s.in_parallel false w) refl refl)
+  body_alone s g (tree.Map map_kind.Sequential xs b) (Two a n m) y h w i e = and_from _ _ (body_alone _ g xs n y.2 h.1 w i refl) (body_alone _ (y.0 ∷ g) b m y.4 h.2 (or_left s.in_parallel false w) refl refl)
+  body_alone s g (tree.Map (map_kind.Over Launch k) xs b) (Two a n m) y h w i e = clash (s.in_parallel) _ (h.0 N3) w (not_awaited s.awaited (tree.Map (map_kind.Over Launch k) xs b) e)
+  body_alone s g (tree.Map (map_kind.Over Groups k) xs b) (Two a n m) y h w i e = clash (s.in_parallel) _ (h.0 N3) w (not_awaited s.awaited (tree.Map (map_kind.Over Groups k) xs b) e)
+  body_alone s g (tree.Map (map_kind.Over Items k) xs b) (Two a n m) y h w i e = clash (not s.is_next_to_group) _ (h.0 N2) (not_from_false s.is_next_to_group i) (not_awaited s.awaited (tree.Map (map_kind.Over Items k) xs b) e)
+  body_alone s g (tree.Fold j xs x b) (Three a n m l) y h w i e = three _ _ _ (body_alone _ g xs n y.2 h.1 w i refl) (body_alone _ g x m y.4 h.2 w i refl) (body_alone _ (y.0 ∷ type_in m ∷ g) b l y.6 h.3 w refl refl)
+  body_alone s g _ _ y h w i e = absurd y

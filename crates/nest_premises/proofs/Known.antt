@@ -1,5 +1,5 @@
 -- What is known of legal nests.
-use Rattle.nest_premises.specs.Laws.{LegalTermsCanBeLowered, KindsTellTasks, TasksStand, LaunchesStand, LegalNestsAreUnbroken, ItemBodiesStand, LetsAroundGroupsBindNoElement, ElementTestsAgree, ElementTypesPass}
+use Rattle.nest_premises.specs.Laws.{LegalTermsCanBeLowered, KindsTellTasks, TasksStand, LaunchesStand, LegalNestsAreUnbroken, ItemBodiesStand, LetsAroundMapsBindNoElement, ElementTestsAgree, ElementTypesPass}
 
 pub record Known : Type 0 where
   pub lowerable : LegalTermsCanBeLowered
@@ -8,6 +8,6 @@ pub record Known : Type 0 where
   pub launches : LaunchesStand
   pub unbroken : LegalNestsAreUnbroken
   pub bodies : ItemBodiesStand
-  pub lets : LetsAroundGroupsBindNoElement
+  pub lets : LetsAroundMapsBindNoElement
   pub tests : ElementTestsAgree
   pub elements : ElementTypesPass

@@ -6,7 +6,8 @@ pub mod Lowerable
 pub mod Stands
 pub mod Alone
 pub mod Top
-pub mod OfKinds
+pub mod Pairs
+pub mod Rows
 pub mod Launches
 pub mod InGroups
 pub mod Limited
@@ -15,5 +16,6 @@ pub mod Known
 pub mod Inputs
 pub mod Bodies
 pub mod OverGroups
+pub mod OverGrid
 pub mod LegalNests
 pub mod Phases

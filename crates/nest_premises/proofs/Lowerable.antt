@@ -23,7 +23,7 @@ use Rattle.lowered_tree.specs.declared.rule.NestRule.TheVariants.{N6, N8, N10, N
 use Rattle.lowered_tree.specs.Elements.{hangs_on_sizes}
 use Rattle.nest_premises.specs.Unbroken.{AllUnbroken}
 use Rattle.nest_premises.proofs.Fits.{Fits}
-use Rattle.nest_premises.proofs.Rules.{moved, of_layout}
+use Rattle.nest_premises.proofs.Rules.{moved, of_layout, body_written}
 use Rattle.nest_premises.proofs.Staged.{passes, refused, same_literal}
 
 element_holds : (a : PlainTy) → is_element a ≡ true → types.HoldsElements a
@@ -72,7 +72,7 @@ module _ (d : Declared) (ys : List ℕ) where
   written_holds s g (tree.Let v b) (Two a n m) y h (inl o) w = element_holds a (from_ir true a o.0)
   written_holds s g (tree.Let v b) (Two a n m) y h (inr (inl o)) w = subst types.HoldsElements (sym y.2) (written_holds _ (type_in n ∷ g) b m y.1 h.2 o.3 (passes s.is_written (is_element a) w (from_ir false a o.0)))
   written_holds s g (tree.Let v b) (Two a n m) y h (inr (inr o)) w = subst types.HoldsElements (sym y.2) (written_holds _ (type_in n ∷ g) b m y.1 h.2 o.3 (passes s.is_written (is_element a) w (from_ir false a o.0)))
-  written_holds s g (tree.Map j xs b) (Two a n m) y h o w = subst types.HoldsElements (sym y.5) (written_holds _ (y.0 ∷ g) b m y.4 h.2 o.1 refl)
+  written_holds s g (tree.Map j xs b) (Two a n m) y h o w = subst types.HoldsElements (sym y.5) (written_holds _ (y.0 ∷ g) b m y.4 h.2 o.1 (body_written s j b a))
   written_holds s g (tree.Fold j xs x b) (Three a n m l) y h o w = subst types.HoldsElements (sym y.8) (element_holds (type_in m) (told_element (type_in m) y.5))
   written_holds s g _ _ y h o w = absurd o
 
@@ -136,7 +136,7 @@ module _ (d : Declared) (ys : List ℕ) where
       subst (λ x. IsLowerable ys (if x then Element else Written) b m) (sym o.0) (written_lowerable _ (type_in n ∷ g) b m y.1 h.2 f.2 o.3 (passes s.is_written (is_element a) w (from_ir false a o.0))),
     )
     written_lowerable s g (tree.Map j xs b) (Two a n m) y h f o w =
-        (outer_short (type_in n) y.0 y.1 y.3 (short_of g xs n y.2 f.1), argument_lowerable _ g xs n y.2 h.1 f.1 o.0, written_lowerable _ (y.0 ∷ g) b m y.4 h.2 f.2 o.1 refl)
+        (outer_short (type_in n) y.0 y.1 y.3 (short_of g xs n y.2 f.1), argument_lowerable _ g xs n y.2 h.1 f.1 o.0, written_lowerable _ (y.0 ∷ g) b m y.4 h.2 f.2 o.1 (body_written s j b a))
     written_lowerable s g (tree.Fold j xs x b) (Three a n m l) y h f o w = (
       outer_short (type_in n) y.0 y.1 y.3 (short_of g xs n y.2 f.1),
       argument_lowerable _ g xs n y.2 h.1 f.1 o.0,

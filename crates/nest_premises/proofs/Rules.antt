@@ -1,8 +1,11 @@
 -- Rules of the nest, at each node of a term.
 use Rattle.std.proofs.Common.{◌≡◌, ℕ, Bool, true, false, List, [], ◌∷◌, ◌++◌, refl, sym, subst}
-use Rattle.std.specs.Prelude.{◌&&◌}
+use Rattle.std.specs.Prelude.{◌&&◌, ◌||◌, not, Option, Some, None}
 use Rattle.size_arith.specs.declared.names.Name.{Name}
 use Rattle.lift_tree.specs.declared.layout.Layout as layout
+use Rattle.lift_tree.specs.declared.layout.Layout.TheVariants as laid
+use Rattle.lift_tree.specs.declared.term.Level.{Level}
+use Rattle.lift_tree.specs.declared.term.MapKind.{MapKind}
 use Rattle.lift_tree.specs.Tree as tree
 use Rattle.lift_tree.specs.Tree.{Tree}
 use Rattle.lift_tree.specs.Types as types
@@ -13,6 +16,8 @@ use Rattle.lift_tree.specs.Annotations.{Annotation, Leaf, One, Two, Three}
 use Rattle.lift_tree.proofs.Layouts.{layout_operand, layout_result}
 use Rattle.lift_ir.specs.Lowerable.{HoldsNoScalar}
 use Rattle.lowered_tree.specs.declared.around.Around.{Around}
+use Rattle.lowered_tree.specs.Around.{awaited_through, body_of, map_body}
+use Rattle.lowered_tree.specs.Pairs.{pair_begun, is_awaited}
 use Rattle.lowered_tree.specs.Nest.{Site, sites, under, in_child, IsUnbroken}
 use Rattle.nest_premises.specs.Unbroken.{AllUnbroken}
 
@@ -26,6 +31,51 @@ spared false y e h = absurd (cc)
 pub true_is_not_false : {A : Type 0} (x : Bool) → x ≡ true → x ≡ false → A
 true_is_not_false true e h = absurd (cc)
 true_is_not_false false e h = absurd (cc)
+
+-- what a rule asks for isn't so where the rest is
+pub spares : (x y : Bool) → (x && y) ≡ false → y ≡ true → x ≡ false
+spares true true e h = absurd (cc)
+spares true false e h = absurd (cc)
+spares false y e h = refl
+
+-- both that a rule asks for are so
+pub clash : {A : Type 0} (x y : Bool) → (x && y) ≡ false → x ≡ true → y ≡ true → A
+clash true true e h k = absurd (cc)
+clash true false e h k = absurd (cc)
+clash false y e h k = absurd (cc)
+
+-- one that a rule forbids is so
+pub forbidden : {A : Type 0} (x y : Bool) → (x || y) ≡ false → x ≡ true → A
+forbidden true y e h = absurd (cc)
+forbidden false y e h = absurd (cc)
+
+-- outside every group's body
+pub outside : (in_group in_local in_rows : Bool) → in_group ≡ false → (not in_group || in_local || in_rows) ≡ true
+outside true l r e = absurd (cc)
+outside false l r e = refl
+
+-- ---- what is around a node
+
+-- a map's body is in writing position
+pub body_written : (s : Around) (k : MapKind) (b : Tree) (a : PlainTy) → (map_body s k b a).is_written ≡ true
+body_written s k b a = go (pair_begun k b)
+  where
+    go : (due : Option Level) → (body_of due s k a).is_written ≡ true
+    go None = refl
+    go (Some l) = refl
+
+-- where no inner map is due, none is due below a layout
+pub still_none : (l : layout.Layout) (due : Option Level) → due ≡ None → awaited_through l due ≡ None
+still_none laid.Join due e = e
+still_none laid.Transpose due e = e
+still_none (laid.Split m) due e = e
+still_none laid.Reverse due e = refl
+still_none (laid.Stride m) due e = refl
+
+-- and no node is it
+pub not_awaited : (due : Option Level) (t : Tree) → due ≡ None → not (is_awaited due t) ≡ true
+not_awaited (Some l) t e = absurd (cc)
+not_awaited None t e = refl
 
 -- ---- types
 

@@ -32,7 +32,7 @@ use Rattle.lowered_tree.specs.Kinds.{is_plain}
 use Rattle.lowered_tree.specs.Copies.{CopiesArrays}
 use Rattle.nest_premises.specs.Unbroken.{IsUnbrokenAt, AllUnbroken}
 use Rattle.nest_premises.proofs.Fits.{Fits}
-use Rattle.nest_premises.proofs.Rules.{spared, true_is_not_false, no_array, holds_none, clash_array, clash_element, moved, under_layout}
+use Rattle.nest_premises.proofs.Rules.{spared, true_is_not_false, no_array, holds_none, clash_array, clash_element, moved, under_layout, body_written}
 
 -- a program's inputs are arrays
 input_is_array : (inputs : List PlainTy) (i : ℕ) (a : PlainTy) → Every IsInput inputs → slice_get inputs i ≡ Some a → is_array a ≡ true
@@ -217,7 +217,7 @@ module _ (d : Declared) (inputs : Every IsInput d.inputs) (ys : List ℕ) where
         (λ i. argued _ g v n y.0 h.1 k.0 f.1 (or_right s.in_argument (not (is_element (type_in n))) (not_from_false (is_element (type_in n)) i)) i)
         (written (is_element (type_in m)) _ (type_in n ∷ g) b m y.1 h.2 k.1 f.2 (passes s.is_written (is_element a) w e) refl)
     written false s g (tree.Map j xs b) (Two a n m) y h k f w e =
-        (argued _ g xs n y.2 h.1 k.0 f.1 (or_right s.in_argument true refl) (moved is_element false (type_in n) (types.ArrayOf _ _) y.3 refl), written (is_element (type_in m)) _ (y.0 ∷ g) b m y.4 h.2 k.1 f.2 refl refl)
+        (argued _ g xs n y.2 h.1 k.0 f.1 (or_right s.in_argument true refl) (moved is_element false (type_in n) (types.ArrayOf _ _) y.3 refl), written (is_element (type_in m)) _ (y.0 ∷ g) b m y.4 h.2 k.1 f.2 (body_written s j b a) refl)
     written false s g (tree.Fold j xs x b) (Three a n m l) y h k f w e =
         let i = told_element (type_in m) y.5 in
         let o = moved is_element true (type_in l) (type_in m) y.7 i in (

@@ -1,18 +1,12 @@
 -- Typed terms whose nest is legal.
-use Rattle.std.specs.Prelude.{Bool, []}
+use Rattle.std.specs.Prelude.{[]}
 use Rattle.lift_tree.specs.Tree.{Tree}
 use Rattle.lift_tree.specs.Types.{IsOutput}
 use Rattle.lift_tree.specs.Typing.{Declared, IsDeclared}
 use Rattle.lift_tree.specs.Limits.{TypesFit}
 use Rattle.lift_tree.specs.Annotations.{Annotation, type_in, Annotates}
-use Rattle.lowered_tree.specs.Kind.{shows_map}
-use Rattle.lowered_tree.specs.Kinds.{is_global}
 use Rattle.lowered_tree.specs.Nest.{IsLegalNest}
 use Rattle.lowered_tree.specs.Words.{FormsHaveWords}
-
--- over all work-items
-abbrev pub shows_global_map : Tree → Bool
-shows_global_map = shows_map is_global
 
 -- a typed term over what it may name, within the limits on types, with a legal nest
 pub record IsLegalTerm (d : Declared) (t : Tree) (n : Annotation) : Type 0 where

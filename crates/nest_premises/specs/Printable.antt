@@ -10,9 +10,9 @@ use Rattle.lift_ir.specs.Lowerable.{IsStaged}
 use Rattle.lowered_tree.specs.Kind.{nest_kind}
 use Rattle.lowered_tree.specs.Kinds.{asks_of}
 use Rattle.lowered_tree.specs.declared.kind.NestKind.{NestKind}
-use Rattle.lowered_tree.specs.declared.kind.NestKind.TheVariants.{Task, OverLaunch, OverGroups}
+use Rattle.lowered_tree.specs.declared.kind.NestKind.TheVariants.{Task, OverLaunch, OverGroups, OverGrid}
 use Rattle.printed_form.specs.Programs.{FitsBuffers, IsLaunchOf, IsLowerableProgram, lowered_root}
-use Rattle.group_form.specs.Kernels.{Printer, OfItems, OfGroups, StandsFor, StandsForLaunch}
+use Rattle.group_form.specs.Kernels.{Printer, OfItems, OfGroups, OfGrids, StandsFor, StandsForLaunch}
 
 -- it can be lowered at all admissible sizes, and all of it fits its buffers
 pub record CanBeLowered (d : Declared) (t : Tree) (n : Annotation) : Type 0 where
@@ -25,8 +25,8 @@ pub record CanBeLowered (d : Declared) (t : Tree) (n : Annotation) : Type 0 wher
 pub record IsPrintable (p : Printer) (d : Declared) (t : Tree) (n : Annotation) : Type 0 where
   pub can : CanBeLowered d t n
   pub stands : StandsFor p (lowered_root d.names t n)
-  pub at_launch : (local : Option ℕ) (bases : List ℕ) (l : Launch)
-      → IsLaunchOf d (asks_of local t) bases l
+  pub at_launch : (local : Option (ℕ × ℕ)) (bases : List ℕ) (l : Launch)
+      → IsLaunchOf d (asks_of local t) bases t n l
       → StandsForLaunch p l (lowered_root d.names t n)
 
 -- the printer of a nest's kind
@@ -34,6 +34,7 @@ abbrev pub printer_of : NestKind → Printer
 printer_of Task = OfItems
 printer_of OverLaunch = OfItems
 printer_of OverGroups = OfGroups
+printer_of OverGrid = OfGrids
 
 -- and of a term
 abbrev pub printer_for : Tree → Printer

@@ -27,7 +27,7 @@ AllUnbroken s (Let v b) (Two a n m) =
     × AllUnbroken (let_body s (is_element (type_in n)) a) b m
 AllUnbroken s (Map k xs b) (Two a n m) =
     IsUnbrokenAt s (Map k xs b) (Two a n m)
-    × AllUnbroken (argument s false a) xs n × AllUnbroken (map_body s k a) b m
+    × AllUnbroken (argument s false a) xs n × AllUnbroken (map_body s k b a) b m
 AllUnbroken s (Fold k xs z b) (Three a n m l) =
     IsUnbrokenAt s (Fold k xs z b) (Three a n m l)
     × AllUnbroken (argument s false a) xs n × AllUnbroken (operand s a) z m

@@ -1,15 +1,22 @@
 //! Laws of legal nests, each carried by a function that does nothing but cite those it stands on.
 
-ghost use Rattle.nest_premises.specs.Groups.{LegalGroupsStandOverGroups, LegalNestsStand, LegalTermsArePrintable, PhasesAreFew};
+ghost use Rattle.nest_premises.specs.Groups.{
+  GridPhasesAreFew,
+  LegalGridsStandOverGrids,
+  LegalGroupsStandOverGroups,
+  LegalNestsStand,
+  LegalTermsArePrintable,
+  PhasesAreFew,
+};
 
 use crate::laws::{
     element_tests_agree, item_bodies_stand, kinds_tell_tasks, launches_stand,
-    legal_nests_are_unbroken, legal_terms_can_be_lowered, lets_around_groups_bind_no_element,
+    legal_nests_are_unbroken, legal_terms_can_be_lowered, lets_around_maps_bind_no_element,
     tasks_stand, ungrouped_terms_are_printable,
 };
 
-/// What a legal term is lowered to is for one work-item, over all of them, or over work-groups, as
-/// its kind says.
+/// What a legal term is lowered to is for one work-item, over all of them, over work-groups, or
+/// over rows of these, as its kind says.
 pub fn legal_nests_stand()
     ensures { LegalNestsStand }
 {
@@ -19,7 +26,7 @@ pub fn legal_nests_stand()
     launches_stand();
     legal_nests_are_unbroken();
     item_bodies_stand();
-    lets_around_groups_bind_no_element();
+    lets_around_maps_bind_no_element();
     element_tests_agree();
 }
 
@@ -31,16 +38,26 @@ pub fn legal_groups_stand_over_groups()
     legal_nests_stand();
 }
 
-/// Each legal term can be printed, for one work-item, for all of them, or for work-groups, as its
-/// kind says.
+/// And so can one with a map over rows of work-groups on top.
+pub fn legal_grids_stand_over_grids()
+    ensures { LegalGridsStandOverGrids }
+{
+    legal_terms_can_be_lowered();
+    legal_nests_stand();
+}
+
+/// Each legal term can be printed, for one work-item, for all of them, for work-groups, or for rows
+/// of these, as its kind says.
 pub fn legal_terms_are_printable()
     ensures { LegalTermsArePrintable }
 {
     ungrouped_terms_are_printable();
     legal_groups_stand_over_groups();
+    legal_grids_stand_over_grids();
 }
 
-/// A term has no more phases than nodes.
+/// A term has no more phases than nodes, over work-groups or over rows of these.
 pub fn phases_are_few()
-    ensures { PhasesAreFew }
+    ensures alone { PhasesAreFew }
+    ensures in_rows { GridPhasesAreFew }
 {}

@@ -9,9 +9,11 @@ ghost use Rattle.nest_premises.specs.Laws.{
   LaunchesStand,
   LegalNestsAreUnbroken,
   LegalTermsCanBeLowered,
-  LetsAroundGroupsBindNoElement,
+  LetsAroundMapsBindNoElement,
+  RowsAreOnTop,
   TasksArePrintable,
   TasksStand,
+  TermsAskForRows,
   UngroupedTermsArePrintable,
 };
 
@@ -25,7 +27,7 @@ pub fn kinds_tell_tasks()
     ensures { KindsTellTasks }
 {}
 
-/// A legal term that isn't a map over work-groups can be printed.
+/// A legal term that isn't a map over work-groups, or over rows of these, can be printed.
 pub fn ungrouped_terms_are_printable()
     ensures { UngroupedTermsArePrintable }
 {}
@@ -50,20 +52,27 @@ pub fn launches_stand()
     ensures { LaunchesStand }
 {}
 
+/// A legal term's maps along dimension 1 tell whether what it is lowered to is in rows, and so what
+/// it asks of a launch.
+pub fn rows_are_on_top()
+    ensures told { RowsAreOnTop }
+    ensures asked { TermsAskForRows }
+{}
+
 /// In a legal nest no rule is broken at any node, walked from the root.
 pub fn legal_nests_are_unbroken()
     ensures { LegalNestsAreUnbroken }
 {}
 
-/// Where no rule is broken, the body of a map over a group's items is lowered to what stands for
-/// one work-item.
+/// Where no rule is broken, the body of a map over the items of a group's row is lowered to what
+/// stands for one work-item.
 pub fn item_bodies_stand()
     ensures { ItemBodiesStand }
 {}
 
-/// Where no rule is broken, a let with a map over work-groups on top of its body binds no element.
-pub fn lets_around_groups_bind_no_element()
-    ensures { LetsAroundGroupsBindNoElement }
+/// Where no rule is broken, a let with a parallel map on top of its body binds no element.
+pub fn lets_around_maps_bind_no_element()
+    ensures { LetsAroundMapsBindNoElement }
 {}
 
 /// The rules of the nest and the lowering test for element types alike, and each such type passes.

@@ -23,6 +23,15 @@ const TWICE: &str = "input xs: [u32; 4]; output map(\\x. add(x, 1), map(\\x. mul
 
 const ROWS: &str = "input xs: [[u32; 4]; 4]; output map(\\r. map(\\x. x, r), xs)";
 
+const GRID: &str =
+    "input xs: [[[[u32; 2]; 3]; 2]; 4]; output map(\\a. map(\\b. map(\\c. map(\\d. add(d, 1), c), b), a), xs)";
+
+const TURNED: &str =
+    "input xs: [[u32; 4]; 4]; output map(\\r. transpose(split(2, map(\\x. x, r))), xs)";
+
+const TWO_TURNS: &str =
+    "input xs: [[[[u32; 2]; 3]; 2]; 4]; output map(\\a. map(\\b. map(\\c. map(\\d. d, map(\\e. e, c)), b), a), xs)";
+
 const HALVES: &str =
     "size N from 1 to 64; input xs: [u32; 2*N]; output join(map(\\r. map(\\x. x, r), split(N, xs)))";
 
@@ -122,9 +131,81 @@ const BROKEN: [(&str, &str, &str, NestRule); 23] = [
     ),
 ];
 
+// The same with maps along dimension 1.
+const BROKEN_IN_ROWS: [(&str, &str, &str, NestRule); 18] = [
+    // such a map begins a pair, or isn't printed
+    (ADDED, "at . to-glb1", "", NestRule::N14),
+    (ADDED, "at . to-wrg1", "", NestRule::N14),
+    (ADDED, "at . to-lcl1", "", NestRule::N2),
+    (ROWS, "at . to-glb1", "", NestRule::N14),
+    (ROWS, "at 1 to-seq\nat . to-glb1", "", NestRule::N14),
+    (ROWS, "at 1 to-wrg\nat . to-glb1", "", NestRule::N14),
+    (ROWS, "at 1 to-glb1\nat . to-glb1", "", NestRule::N14),
+    (ROWS, "at 1 to-glb1\nat . to-seq", "1", NestRule::N9),
+    // and along dimension 0 a parallel map is the inner one of a pair
+    (ROWS, "at 1 to-glb1\nat . to-glb", "", NestRule::N14),
+    (
+        GRID,
+        "at 1.1.1 to-seq\nat 1.1 to-lcl\nat 1 to-wrg\nat . to-wrg1",
+        "11",
+        NestRule::N14,
+    ),
+    // it is seen through join, split and transpose alone
+    (
+        "input xs: [[u32; 4]; 4]; output map(\\r. reverse(map(\\x. x, r)), xs)",
+        "at 1.0 to-glb\nat . to-glb1",
+        "",
+        NestRule::N14,
+    ),
+    (
+        "input xs: [[u32; 4]; 4]; output map(\\r. stride(2, map(\\x. x, r)), xs)",
+        "at 1.0 to-glb\nat . to-glb1",
+        "",
+        NestRule::N14,
+    ),
+    (
+        "input xs: [[u32; 4]; 4]; output map(\\r. let y = r in map(\\x. x, y), xs)",
+        "at 1.1 to-glb\nat . to-glb1",
+        "",
+        NestRule::N14,
+    ),
+    // the array of a pair's inner map is in no body of the pair
+    (
+        "input xs: [[u32; 4]; 4]; output map(\\r. map(\\x. x, map(\\y. y, r)), xs)",
+        "at 1.0 to-glb\nat 1 to-glb\nat . to-glb1",
+        "10",
+        NestRule::N7,
+    ),
+    (
+        ROWS,
+        "at 1.0 private-copy\nat 1 to-glb\nat . to-glb1",
+        "10",
+        NestRule::N8,
+    ),
+    (
+        TWO_TURNS,
+        "at 1.1.1.0 to-seq\nat 1.1.1 to-lcl\nat 1.1 to-lcl1\nat 1 to-wrg\nat . to-wrg1",
+        "1110",
+        NestRule::N7,
+    ),
+    (
+        TWO_TURNS,
+        "at 1.1.1.0 to-lcl\nat 1.1.1.0 local\nat 1.1.1 to-lcl\nat 1.1 to-lcl1\nat 1 to-wrg\nat . to-wrg1",
+        "1110",
+        NestRule::N5,
+    ),
+    // a pair of maps over a group's items has all the work of a body of a pair over groups
+    (
+        GRID,
+        "at 1.1.1 to-seq\nat 1.1 to-seq\nat 1 to-wrg\nat . to-wrg1",
+        "11",
+        NestRule::N4,
+    ),
+];
+
 // A program, a script, and the spaces of its last term's computing nodes in preorder:
 // global, local or private.
-const LEGAL: [(&str, &str, &str); 10] = [
+const LEGAL: [(&str, &str, &str); 14] = [
     (ADDED, "at . to-seq", "gg"),
     (ADDED, "at . to-glb", "gg"),
     (COPIED, "at 0 private-copy\nat . to-seq", "gppg"),
@@ -144,10 +225,23 @@ const LEGAL: [(&str, &str, &str); 10] = [
         "at 1.0.0 to-lcl\nat 1.0 local\nat 1 to-lcl\nat . to-wrg",
         "ggllg",
     ),
+    // pairs of maps
+    (ROWS, "at 1 to-glb\nat . to-glb1", "ggg"),
+    (TURNED, "at 1.0.0 to-glb\nat . to-glb1", "ggg"),
+    (
+        GRID,
+        "at 1.1.1 to-lcl\nat 1.1 to-lcl1\nat 1 to-wrg\nat . to-wrg1",
+        "ggggg",
+    ),
+    (
+        "input xs: [[[[u32; 2]; 3]; 2]; 4]; output map(\\a. map(\\b. map(\\c. map(\\d. d, c), map(\\e. map(\\f. f, e), b)), a), xs)",
+        "at 1.1.0.1 to-lcl\nat 1.1.0 to-lcl1\nat 1.1.0 local\nat 1.1.1 to-lcl\nat 1.1 to-lcl1\nat 1 to-wrg\nat . to-wrg1",
+        "ggglllgg",
+    ),
 ];
 
 // A program, a script, and who runs its last term.
-const KINDS: [(&str, &str, NestKind); 10] = [
+const KINDS: [(&str, &str, NestKind); 13] = [
     (ADDED, "at . to-seq", NestKind::Task),
     (SUM, SUMMED, NestKind::Task),
     (ADDED, "at . to-glb", NestKind::OverLaunch),
@@ -170,29 +264,54 @@ const KINDS: [(&str, &str, NestKind); 10] = [
         "at 0.0 to-glb",
         NestKind::OverLaunch,
     ),
+    (ROWS, "at 1 to-glb\nat . to-glb1", NestKind::OverLaunch),
+    (
+        TURNED,
+        "at 1.0.0 to-glb\nat . to-glb1",
+        NestKind::OverLaunch,
+    ),
+    (
+        GRID,
+        "at 1.1.1 to-lcl\nat 1.1 to-lcl1\nat 1 to-wrg\nat . to-wrg1",
+        NestKind::OverGrid,
+    ),
 ];
 
 // The same with a fixed local size.
-const BROKEN_WITH_A_SIZE: [(&str, &str, u32, &str, NestRule); 6] = [
-    (ADDED, "at . to-seq", 2, "", NestRule::N12),
-    (ROWS, "at . to-seq", 256, "", NestRule::N12),
-    (ADDED, "", 2, "", NestRule::N1),
-    ("input xs: [u32; 5]; output xs", "", 2, "", NestRule::N11),
-    (ROWS, "at 1 to-lcl\nat . to-seq", 2, "1", NestRule::N2),
+const BROKEN_WITH_A_SIZE: [(&str, &str, (u32, u32), &str, NestRule); 10] = [
+    (ADDED, "at . to-seq", (2, 1), "", NestRule::N12),
+    (ROWS, "at . to-seq", (256, 1), "", NestRule::N12),
+    (ADDED, "at . to-seq", (1, 2), "", NestRule::N12),
+    // rows, and no map along dimension 1
+    (ADDED, "at . to-glb", (1, 2), "", NestRule::N12),
+    (ROWS, "at 1 to-lcl\nat . to-wrg", (2, 3), "", NestRule::N12),
+    (ROWS, "at 1 to-seq\nat . to-glb1", (2, 3), "", NestRule::N14),
+    (ADDED, "", (2, 1), "", NestRule::N1),
+    (
+        "input xs: [u32; 5]; output xs",
+        "",
+        (2, 1),
+        "",
+        NestRule::N11,
+    ),
+    (ROWS, "at 1 to-lcl\nat . to-seq", (2, 1), "1", NestRule::N2),
     (
         TWICE,
         "at 0 to-seq\nat 0 then\nat . to-seq",
-        2,
+        (2, 1),
         "0",
         NestRule::N13,
     ),
 ];
 
 // Legal terms with a fixed local size.
-const LEGAL_WITH_A_SIZE: [(&str, &str, u32); 3] = [
-    (ADDED, "at . to-seq", 1),
-    (ADDED, "at . to-glb", 2),
-    (ROWS, "at 1 to-lcl\nat . to-wrg", 256),
+const LEGAL_WITH_A_SIZE: [(&str, &str, (u32, u32)); 6] = [
+    (ADDED, "at . to-seq", (1, 1)),
+    (ADDED, "at . to-glb", (2, 1)),
+    (ROWS, "at 1 to-lcl\nat . to-wrg", (256, 1)),
+    (ROWS, "at 1 to-glb\nat . to-glb1", (2, 3)),
+    (ROWS, "at 1 to-glb\nat . to-glb1", (1, 256)),
+    (ROWS, "at 1 to-glb\nat . to-glb1", (256, 1)),
 ];
 
 // What is judged of it, with this local size where one is fixed.
@@ -200,7 +319,7 @@ fn judged(
     alloc: Global,
     program: &str,
     script: &str,
-    local: Option<u32>,
+    local: Option<(u32, u32)>,
 ) -> Result<Option<Result<Mapped, NestNo>>, Fail> {
     match lowered_last(alloc, program, script)? {
         Some(lowered) => Ok(Some(judge(alloc, lowered, size_of_groups(local)))),
@@ -208,10 +327,10 @@ fn judged(
     }
 }
 
-// The number, where groups may have that size.
-fn size_of_groups(number: Option<u32>) -> Option<LocalSize> {
-    match number {
-        Some(size) => LocalSize::new(size),
+// The size, where groups may have it.
+fn size_of_groups(size: Option<(u32, u32)>) -> Option<LocalSize> {
+    match size {
+        Some((across, down)) => LocalSize::new(across, down),
         None => None,
     }
 }
@@ -229,7 +348,7 @@ fn breaks(judged: Option<Result<Mapped, NestNo>>, digits: &str, want: NestRule) 
     }
 }
 
-fn keeps_size(judged: Option<Result<Mapped, NestNo>>, local: u32) -> bool {
+fn keeps_size(judged: Option<Result<Mapped, NestNo>>, local: (u32, u32)) -> bool {
     match judged {
         Some(Ok(mapped)) => mapped.local == Some(local),
         _ => false,
@@ -257,6 +376,10 @@ fn has_spaces(alloc: Global, program: &str, script: &str, want: &str) -> Result<
 #[test]
 fn the_first_broken_rule_is_told(rt: HostRuntime) -> Result<(), Fail> {
     for (program, script, digits, rule) in BROKEN {
+        let judged = judged(rt.alloc(), program, script, None)?;
+        assert!(rt; breaks(judged, digits, rule), "{script}");
+    }
+    for (program, script, digits, rule) in BROKEN_IN_ROWS {
         let judged = judged(rt.alloc(), program, script, None)?;
         assert!(rt; breaks(judged, digits, rule), "{script}");
     }

@@ -1,18 +1,21 @@
 -- A written term of a legal nest, and what it is written through.
 use Rattle.std.proofs.Common.{◌≡◌, ℕ, Bool, true, false, List, ◌∷◌, refl, ap, subst}
 use Rattle.std.proofs.lemmas.Bool.{and_from, both_ways, not_from_false}
-use Rattle.std.specs.Prelude.{not, ◌&&◌}
+use Rattle.std.specs.Prelude.{not, ◌&&◌, Option, Some, None}
 use Rattle.size_arith.specs.declared.names.Name.{Name}
 use Rattle.lift_tree.specs.declared.layout.Layout as layout
 use Rattle.lift_tree.specs.declared.term.UnaryForm.{UnaryForm}
 use Rattle.lift_tree.specs.declared.term.UnaryForm.TheVariants.{Layout, Slide, Pad}
+use Rattle.lift_tree.specs.declared.term.Level.{Level}
 use Rattle.lift_tree.specs.declared.term.MapKind.{MapKind}
 use Rattle.lift_tree.specs.Annotations.{Annotation, One, Two, type_in}
 use Rattle.lift_tree.specs.Tree.{Tree, Unary, Let, Map}
 use Rattle.lift_tree.specs.Types.{PlainTy, IsFormed, is_element}
 use Rattle.lift_tree.proofs.Formed.{formed_in}
 use Rattle.lift_tree.proofs.Layouts.{layout_result}
-use Rattle.lowered_tree.specs.Around.{let_body, map_body, passed}
+use Rattle.lowered_tree.specs.Around.{body_of, let_body, map_body, passed}
+use Rattle.lowered_tree.specs.Pairs.{pair_begun}
+use Rattle.lowered_tree.specs.declared.around.Around.{Around}
 use Rattle.lowered_tree.specs.declared.rule.NestRule.TheVariants.{N10}
 use Rattle.output_owner.specs.Written.{IsWritten}
 
@@ -24,6 +27,14 @@ still_written w e h k = and_from w (not e) h (not_from_false e k)
 not_read_alone : (w e : Bool) → w ≡ true → e ≡ false → (w && not e && true) ≡ false → ⊥
 not_read_alone w e h k r = both_ways (w && not e && true) r (and_from (w && not e) true (still_written w e h k) refl)
 
+-- a map's body is written, whether the map begins a pair or not
+body_written : (s : Around) (k : MapKind) (b : Tree) (a : PlainTy) → (map_body s k b a).is_written ≡ true
+body_written s k b a = go (pair_begun k b)
+  where
+    go : (due : Option Level) → (body_of due s k a).is_written ≡ true
+    go None = refl
+    go (Some l) = refl
+
 module _ (names : List Name) where
   pub below_layout : (l : layout.Layout) (t : Tree) (a : PlainTy) (n : Annotation) → IsWritten names (Unary (Layout l) t) (One a n) → IsWritten names t n
   below_layout l t a n w = record {
@@ -33,7 +44,7 @@ module _ (names : List Name) where
     binders = w.binders;
     formed = w.formed;
     nodes = w.nodes.0;
-    around = passed w.around a;
+    around = passed w.around l a;
     written = still_written w.around.is_written (is_element a) w.written (ap is_element (layout_result w.declared.names l (type_in n) a w.nodes.1).is);
     unbroken = w.unbroken.1;
   }
@@ -71,7 +82,7 @@ module _ (names : List Name) where
         binders = h.0 ∷ w.binders;
         formed = (array.1, w.formed);
         nodes = h.4;
-        around = map_body w.around k a;
-        written = refl;
+        around = map_body w.around k b a;
+        written = body_written w.around k b a;
         unbroken = w.unbroken.2;
       }

@@ -1,14 +1,17 @@
 -- The owner of a scalar of a whole term.
-use Rattle.std.proofs.Common.{◌≡◌, ℕ, ◌<◌, ◌^◌, List, [], refl, sym, ap, ◌∙◌, subst, Option}
+use Rattle.std.proofs.Common.{◌≡◌, ℕ, ◌+◌, ◌*◌, ◌%◌, ◌<◌, ◌≤◌, ◌^◌, List, [], refl, sym, ap, ap₂, ◌∙◌, subst, Option, arith}
+use Rattle.std.proofs.lemmas.Nat.{mul-le}
 use Rattle.size_arith.specs.declared.names.Name.{Name}
 use Rattle.size_arith.specs.Ranges.{Admissible, AreNames, sizes_at}
 use Rattle.lift_tree.specs.Annotations.{Annotation, annotation_of, type_in}
 use Rattle.lift_tree.specs.Tree.{Tree, tree_of}
 use Rattle.lift_tree.specs.Typing.{Declared}
-use Rattle.kernel_tree.specs.Launch.{Launch}
+use Rattle.lift_tree.specs.declared.term.Dimension.{Dimension}
+use Rattle.kernel_tree.specs.Launch.{Launch, IsWhole}
 use Rattle.lift_ir.specs.AtLaunch.{length_at}
-use Rattle.lift_ir.specs.Owner.{owner}
+use Rattle.lift_ir.specs.Owner.{owner, column_owner, row_owner}
 use Rattle.lift_ir.specs.Types.{size}
+use Rattle.lift_ir.proofs.Owner.{owner_below}
 use Rattle.lift_ir.proofs.Values.{shape_is}
 use Rattle.lowered_tree.specs.Around.{at_root}
 use Rattle.lowered_tree.specs.Kinds.{asks_of}
@@ -18,11 +21,10 @@ use Rattle.printed_form.specs.Programs.{cell_owner, IsLaunchOf}
 use Rattle.launch_lengths.specs.Bases.{bases_of}
 use Rattle.launch_lengths.specs.Laws.{BasesComeBack}
 use Rattle.output_owner.specs.Outputs.{IsLegalFor, cell_count}
-use Rattle.output_owner.specs.Owners.{IsOfTop, owner_on_top, position, written}
-use Rattle.output_owner.specs.declared.walk.OnTop.{OnTop}
+use Rattle.output_owner.specs.Owners.{owner_along, position, written}
 use Rattle.output_owner.specs.Written.{IsNumber, IsScalarOf}
 
-module _ (back : BasesComeBack) (lowered : LegalTermsCanBeLowered) (nests : LegalNestsAreUnbroken) (d : Declared) (l : Lowered) (launch : Launch) (bases : List ℕ) (cell : ℕ) (is : IsLegalFor d l) (local : Option ℕ) (here : IsLaunchOf d (asks_of local (tree_of l.term)) bases launch) where
+module _ (back : BasesComeBack) (lowered : LegalTermsCanBeLowered) (nests : LegalNestsAreUnbroken) (d : Declared) (l : Lowered) (launch : Launch) (bases : List ℕ) (cell : ℕ) (is : IsLegalFor d l) (local : Option (ℕ × ℕ)) (here : IsLaunchOf d (asks_of local (tree_of l.term)) bases (tree_of l.term) (annotation_of l.types) launch) where
   ok : Admissible l.names bases
   ok = subst (λ (ns : List Name). Admissible ns bases) is.names here.admissible.sizes
 
@@ -52,34 +54,40 @@ module _ (back : BasesComeBack) (lowered : LegalTermsCanBeLowered) (nests : Lega
     scalar = subst (λ (b : List ℕ). IsNumber b (annotation_of l.types) cell) (sym same_bases) (record { few = few; below = below });
   }
 
-  pub at_bases : (item : ℕ)
-      → item ≡ owner (length_at (bases_of l.names launch.sizes)) launch (written l.names (tree_of l.term) (annotation_of l.types)) (position (bases_of l.names launch.sizes) (annotation_of l.types) cell)
-      → item ≡ owner (length_at bases) launch (written l.names (tree_of l.term) (annotation_of l.types)) (position bases (annotation_of l.types) cell)
-  at_bases item h = subst (λ (b : List ℕ). item ≡ owner (length_at b) launch (written l.names (tree_of l.term) (annotation_of l.types)) (position b (annotation_of l.types) cell)) same_bases h
-
   abbrev term : Tree
   term = tree_of l.term
 
   abbrev types : Annotation
   types = annotation_of l.types
 
-  -- the owner of the scalar on top, where names and sizes are these
-  pub on_top_at : (names : List Name) (sizes : List ℕ) → names ≡ l.names → sizes ≡ launch.sizes → (top : OnTop) (item : ℕ)
-      → (IsScalarOf names sizes term types cell → IsOfTop names (bases_of names sizes) term types cell top)
-      → (IsScalarOf names sizes term types cell → IsScalarOf names sizes (tree_of top.body.now) (annotation_of top.types.now) top.number)
-      → (IsScalarOf names launch.sizes (tree_of top.body.now) (annotation_of top.types.now) top.number → item ≡ owner_on_top names (bases_of names launch.sizes) launch top)
-      → cell < cell_count bases l → item ≡ owner (length_at bases) launch (written l.names term types) (position bases types cell)
-  on_top_at names sizes en es top item found body told below =
+  abbrev scalar : List ℕ
+  scalar = position bases types cell
+
+  -- where the item is along a dimension, as it is told for these names
+  pub place : (dimension : Dimension) (names : List Name) (item : ℕ) → names ≡ l.names
+      → (IsScalarOf names launch.sizes term types cell
+      → item ≡ owner_along dimension (length_at (bases_of names launch.sizes)) launch (written names term types) (position (bases_of names launch.sizes) types cell))
+      → cell < cell_count bases l → item ≡ owner_along dimension (length_at bases) launch (written l.names term types) scalar
+  place dimension names item e told below =
       let s = of_root below in
-      let f =
-      subst (λ (ns : List Name). IsScalarOf ns launch.sizes term types cell → IsOfTop ns (bases_of ns launch.sizes) term types cell top) en
-      (subst (λ (ss : List ℕ). IsScalarOf names ss term types cell → IsOfTop names (bases_of names ss) term types cell top) es found) in
-      let b =
-      subst (λ (ns : List Name). IsScalarOf ns launch.sizes term types cell → IsScalarOf ns launch.sizes (tree_of top.body.now) (annotation_of top.types.now) top.number) en
-      (subst (λ (ss : List ℕ). IsScalarOf names ss term types cell → IsScalarOf names ss (tree_of top.body.now) (annotation_of top.types.now) top.number) es body) in
-      let t =
-      subst (λ (ns : List Name). IsScalarOf ns launch.sizes (tree_of top.body.now) (annotation_of top.types.now) top.number → item ≡ owner_on_top ns (bases_of ns launch.sizes) launch top) en told in
-      at_bases item (t (b s) ∙ sym ((f s).item launch))
+      let h =
+      subst (λ (ns : List Name). IsScalarOf ns launch.sizes term types cell → item ≡ owner_along dimension (length_at (bases_of ns launch.sizes)) launch (written ns term types) (position (bases_of ns launch.sizes) types cell)) e
+      told in
+      subst (λ (b : List ℕ). item ≡ owner_along dimension (length_at b) launch (written l.names term types) (position b types cell)) same_bases (h s)
+
+  -- the item in a column and in a row, in 32 bits
+  pub item_is : (column row : ℕ) → IsWhole launch → 0 < launch.global.0 → 0 < launch.global.1
+      → column ≡ column_owner (length_at bases) launch (written l.names term types) scalar → row ≡ row_owner (length_at bases) launch (written l.names term types) scalar
+      → (column + row * launch.global.0 % 4294967296) % 4294967296 ≡ owner (length_at bases) launch (written l.names term types) scalar
+  item_is column row whole some rows h k =
+      let is : column + row * launch.global.0 ≡ owner (length_at bases) launch (written l.names term types) scalar = ap₂ (λ x y. x + y * launch.global.0) h k in
+      let least : 1 * 1 ≤ launch.global.0 * launch.global.1 = mul-le 1 1 launch.global.0 launch.global.1 some rows in
+      let low = owner_below (length_at bases) launch (written l.names term types) scalar whole (omega (arith, least)) in
+      let most = here.admissible.global_most in
+      in_word column (row * launch.global.0) (omega (arith, is, low, most)) ∙ is
+    where
+      in_word : (x y : ℕ) → x + y < 4294967296 → (x + y % 4294967296) % 4294967296 ≡ x + y
+      in_word x y lt = omega arith
 
 -- the names are those of the legal term
 pub of_names : (d : Declared) (l : Lowered) (bases : List ℕ) (launch : Launch) (array cell item : ℕ) → IsLegalFor d l

@@ -13,10 +13,13 @@ use Rattle.lift_tree.specs.declared.length.Factor.{Factor}
 use Rattle.lift_tree.specs.declared.layout.Layout as layout
 use Rattle.lift_tree.specs.declared.layout.Layout.TheVariants.{Join, Transpose, Split, Reverse, Stride}
 use Rattle.lift_tree.specs.declared.term.UnaryForm.TheVariants.{Div, First, Layout, Pad, Rem, Second, Slide, Then, ToLocal, ToPrivate}
+use Rattle.lift_tree.specs.declared.term.Dimension.{Dimension}
+use Rattle.lift_tree.specs.declared.term.Dimension.TheVariants.{X, Y}
 use Rattle.lift_tree.specs.declared.term.MapKind.{MapKind}
 use Rattle.lift_tree.specs.declared.term.UnaryForm.{UnaryForm}
+use Rattle.kernel_tree.specs.Launch.{Launch}
 use Rattle.lift_tree.specs.Annotations.{Annotation, One, Two, type_in}
-use Rattle.lift_tree.specs.Tree.{Tree, Unary, Let, Map}
+use Rattle.lift_tree.specs.Tree.{Tree, Unary, Let, Map, nodes, tree_of}
 use Rattle.lift_tree.specs.Types.{PlainTy, ArrayOf, is_element}
 use Rattle.lift_tree.specs.Meaning.{product_at}
 use Rattle.lift_tree.specs.WorkedOut.{product_of}
@@ -26,8 +29,8 @@ use Rattle.lift_ir.specs.Layouts.{operand_position, Reshapes}
 use Rattle.lift_ir.specs.Layouts as layouts
 use Rattle.lift_ir.specs.Lowering as ir
 use Rattle.lift_ir.specs.Lowering.{Lowered, Written, kind_of, lower, element_ty, value_place}
-use Rattle.lift_ir.specs.Owner.{local_owner, owner}
-use Rattle.lift_ir.specs.Terms.{Kind, Global, WorkGroup, Local, Sequential, LoadSet, Literal, Reshape, Store, LetArray, LetElement}
+use Rattle.lift_ir.specs.Owner.{local_owner, local_row_owner, column_owner, row_owner}
+use Rattle.lift_ir.specs.Terms.{Kind, Global, WorkGroup, Local, Sequential, GlobalRows, WorkGroupRows, LocalRows, LoadSet, Literal, Reshape, Store, LetArray, LetElement}
 use Rattle.lift_ir.specs.Terms as terms
 use Rattle.lift_ir.specs.Types as shapes
 use Rattle.lift_ir.specs.Types.{Ty, size, unflat}
@@ -37,7 +40,7 @@ use Rattle.lift_ir.proofs.Positions as positions
 use Rattle.lift_ir.proofs.AtLaunch.{join_reshapes, split_reshapes, stride_lengths, Strides}
 use Rattle.launch_lengths.specs.Bases.{bases_of}
 use Rattle.output_owner.specs.declared.walk.OnTop.{OnTop}
-use Rattle.output_owner.specs.Owners.{HaveOneOwner, IsOfNone, IsOfTop, map_over, position, written}
+use Rattle.output_owner.specs.Owners.{owner_along, local_along, HaveOneOwner, IsOfNone, IsOfTop, map_over, position, written}
 use Rattle.output_owner.specs.Numbers.{HasStep, IsOfComponent, IsStepOf, moved, operand_number, reversed, strided, transposed, turned}
 use Rattle.output_owner.specs.Written.{IsScalarOf, IsWritten}
 use Rattle.output_owner.proofs.Legal.{below_layout, below_let, below_map, no_pad, no_slide, operand_formed}
@@ -111,21 +114,34 @@ stride_position num a c p r e k ea ec hp hr low =
 
 -- ---- of one owner
 
+-- told in both dimensions
+pub told : {bases : List ℕ} {t : Lowered} {q : List ℕ} {u : Lowered} {p : List ℕ} → ((l : Launch) → column_owner (length_at bases) l t q ≡ column_owner (length_at bases) l u p) → ((l : Launch) → row_owner (length_at bases) l t q ≡ row_owner (length_at bases) l u p)
+    → ((l : Launch) → local_owner (length_at bases) l t q ≡ local_owner (length_at bases) l u p) → ((l : Launch) → local_row_owner (length_at bases) l t q ≡ local_row_owner (length_at bases) l u p) → HaveOneOwner bases t q u p
+told {bases} {t} {q} {u} {p} column row place place_row = record { item = item; local = local }
+  where
+    item : (d : Dimension) (l : Launch) → owner_along d (length_at bases) l t q ≡ owner_along d (length_at bases) l u p
+    item X l = column l
+    item Y l = row l
+
+    local : (d : Dimension) (l : Launch) → local_along d (length_at bases) l t q ≡ local_along d (length_at bases) l u p
+    local X l = place l
+    local Y l = place_row l
+
 pub through_layout : (bases : List ℕ) (y : layouts.Layout (List Monomial)) (t : Lowered) (q p : List ℕ) → operand_position (length_at bases) y q ≡ p → HaveOneOwner bases (Reshape y t) q t p
-through_layout bases y t q p e = record {
-  item = λ l. ap (owner (length_at bases) l t) e;
-  local = λ l. ap (local_owner (length_at bases) l t) e;
-}
+through_layout bases y t q p e = told (λ l. ap (column_owner (length_at bases) l t) e) (λ l. ap (row_owner (length_at bases) l t) e) (λ l. ap (local_owner (length_at bases) l t) e) (λ l. ap (local_row_owner (length_at bases) l t) e)
 
 pub after : (bases : List ℕ) (t u v : Lowered) (q p r : List ℕ) → HaveOneOwner bases t q u p → HaveOneOwner bases u p v r → HaveOneOwner bases t q v r
-after bases t u v q p r h k = record { item = λ l. h.item l ∙ k.item l; local = λ l. h.local l ∙ k.local l }
+after bases t u v q p r h k = record { item = λ d l. h.item d l ∙ k.item d l; local = λ d l. h.local d l ∙ k.local d l }
 
 -- a map's owner is told by its kind, its turn and its body
 pub of_map : (bases : List ℕ) (k : Kind) (n : List Monomial) (loads : LoadSet) (xs b : Lowered) (i : ℕ) (q : List ℕ) → HaveOneOwner bases (terms.Map k n loads xs b) (i ∷ q) (map_over k b) (i ∷ q)
-of_map bases Global n loads xs b i q = record { item = λ l. refl; local = λ l. refl }
-of_map bases WorkGroup n loads xs b i q = record { item = λ l. refl; local = λ l. refl }
-of_map bases Local n loads xs b i q = record { item = λ l. refl; local = λ l. refl }
-of_map bases Sequential n loads xs b i q = record { item = λ l. refl; local = λ l. refl }
+of_map bases Global n loads xs b i q = told (λ l. refl) (λ l. refl) (λ l. refl) (λ l. refl)
+of_map bases WorkGroup n loads xs b i q = told (λ l. refl) (λ l. refl) (λ l. refl) (λ l. refl)
+of_map bases Local n loads xs b i q = told (λ l. refl) (λ l. refl) (λ l. refl) (λ l. refl)
+of_map bases Sequential n loads xs b i q = told (λ l. refl) (λ l. refl) (λ l. refl) (λ l. refl)
+of_map bases GlobalRows n loads xs b i q = told (λ l. refl) (λ l. refl) (λ l. refl) (λ l. refl)
+of_map bases WorkGroupRows n loads xs b i q = told (λ l. refl) (λ l. refl) (λ l. refl) (λ l. refl)
+of_map bases LocalRows n loads xs b i q = told (λ l. refl) (λ l. refl) (λ l. refl) (λ l. refl)
 
 -- a let, whose whole type and whose value's are tested so
 abbrev let_tested : (names : List Name) (v b : Tree) (a : PlainTy) (n m : Annotation) (whole value : Bool) → Lowered
@@ -135,15 +151,15 @@ let_tested names v b a n m x y =
 
 pub of_let : (names : List Name) (bases : List ℕ) (v b : Tree) (a : PlainTy) (n m : Annotation) (q : List ℕ) → is_element a ≡ false → is_element (type_in n) ≡ false → HaveOneOwner bases (written names (Let v b) (Two a n m)) q (written names b m) q
 of_let names bases v b a n m q e f =
-    subst (λ (t : Lowered). HaveOneOwner bases t q (written names b m) q) (sym (written_let names v b a n m (told_ir false a e) (told_ir false (type_in n) f))) (record { item = λ l. refl; local = λ l. refl })
+    subst (λ (t : Lowered). HaveOneOwner bases t q (written names b m) q) (sym (written_let names v b a n m (told_ir false a e) (told_ir false (type_in n) f))) (told (λ l. refl) (λ l. refl) (λ l. refl) (λ l. refl))
 
 pub of_element : (names : List Name) (bases : List ℕ) (v b : Tree) (a : PlainTy) (n m : Annotation) (q : List ℕ) → is_element a ≡ true → HaveOneOwner bases (written names (Let v b) (Two a n m)) q (Literal 0) []
-of_element names bases v b a n m q e = subst (λ (x : Bool). HaveOneOwner bases (let_tested names v b a n m x (ir.is_element (type_in n))) q (Literal 0) []) (sym (told_ir true a e)) (record { item = λ l. refl; local = λ l. refl })
+of_element names bases v b a n m q e = subst (λ (x : Bool). HaveOneOwner bases (let_tested names v b a n m x (ir.is_element (type_in n))) q (Literal 0) []) (sym (told_ir true a e)) (told (λ l. refl) (λ l. refl) (λ l. refl) (λ l. refl))
 
 pub of_bound_element : (names : List Name) (bases : List ℕ) (v b : Tree) (a : PlainTy) (n m : Annotation) (q : List ℕ) → is_element a ≡ false → is_element (type_in n) ≡ true → HaveOneOwner bases (written names (Let v b) (Two a n m)) q (Literal 0) []
 of_bound_element names bases v b a n m q e f =
     subst (λ (x : Bool). HaveOneOwner bases (let_tested names v b a n m x (ir.is_element (type_in n))) q (Literal 0) []) (sym (told_ir false a e))
-    (subst (λ (y : Bool). HaveOneOwner bases (let_tested names v b a n m false y) q (Literal 0) []) (sym (told_ir true (type_in n) f)) (record { item = λ l. refl; local = λ l. refl }))
+    (subst (λ (y : Bool). HaveOneOwner bases (let_tested names v b a n m false y) q (Literal 0) []) (sym (told_ir true (type_in n) f)) (told (λ l. refl) (λ l. refl) (λ l. refl) (λ l. refl)))
 
 -- ---- one step
 
@@ -330,7 +346,7 @@ module _ (names : List Name) (sizes : List ℕ) where
         let within : moved q p (size e) k < size (shapes.ArrayOf (p * q) e) = (let b = v.below in omega arith) in
         record {
           scalar = stays (Stride fs) t a n k s j size_of_stride (subst (λ (z : Ty). j < size z) (sym lengths.operand) (subst (λ z. z < size (shapes.ArrayOf (p * q) e)) (sym number_is) within));
-          owner = record { item = λ l. ap (owner (length_at bases) l (written names t n)) is; local = λ l. ap (local_owner (length_at bases) l (written names t n)) is };
+          owner = told (λ l. ap (column_owner (length_at bases) l (written names t n)) is) (λ l. ap (row_owner (length_at bases) l (written names t n)) is) (λ l. ap (local_owner (length_at bases) l (written names t n)) is) (λ l. ap (local_row_owner (length_at bases) l (written names t n)) is);
         }
 
   -- any of them
@@ -443,16 +459,16 @@ module _ (names : List Name) (sizes : List ℕ) where
   is_no_layout f (inr (inr (inr (inr (inr (inr (inr (inr e)))))))) = subst IsNoLayout (sym e) tt
 
   pub of_no_layout : (f : UnaryForm) (t : Tree) (a : PlainTy) (n : Annotation) (k : ℕ) → IsNoLayout f → NoneOn k (Unary f t) (One a n)
-  of_no_layout (Div x) t a n k other s = record { item = λ l. refl; local = λ l. refl }
-  of_no_layout (Rem x) t a n k other s = record { item = λ l. refl; local = λ l. refl }
-  of_no_layout First t a n k other s = record { item = λ l. refl; local = λ l. refl }
-  of_no_layout Second t a n k other s = record { item = λ l. refl; local = λ l. refl }
+  of_no_layout (Div x) t a n k other s = told (λ l. refl) (λ l. refl) (λ l. refl) (λ l. refl)
+  of_no_layout (Rem x) t a n k other s = told (λ l. refl) (λ l. refl) (λ l. refl) (λ l. refl)
+  of_no_layout First t a n k other s = told (λ l. refl) (λ l. refl) (λ l. refl) (λ l. refl)
+  of_no_layout Second t a n k other s = told (λ l. refl) (λ l. refl) (λ l. refl) (λ l. refl)
   of_no_layout (Layout l) t a n k other s = absurd other
   of_no_layout (Slide x y) t a n k other s = absurd (no_slide names x y t a n s.term)
   of_no_layout (Pad x y) t a n k other s = absurd (no_pad names x y t a n s.term)
-  of_no_layout ToLocal t a n k other s = record { item = λ l. refl; local = λ l. refl }
-  of_no_layout ToPrivate t a n k other s = record { item = λ l. refl; local = λ l. refl }
-  of_no_layout Then t a n k other s = record { item = λ l. refl; local = λ l. refl }
+  of_no_layout ToLocal t a n k other s = told (λ l. refl) (λ l. refl) (λ l. refl) (λ l. refl)
+  of_no_layout ToPrivate t a n k other s = told (λ l. refl) (λ l. refl) (λ l. refl) (λ l. refl)
+  of_no_layout Then t a n k other s = told (λ l. refl) (λ l. refl) (λ l. refl) (λ l. refl)
 
   -- ---- the map on top, whose rows have so many scalars
 
@@ -463,5 +479,13 @@ module _ (names : List Name) (sizes : List ℕ) where
     pub map_found : IsScalarOf names sizes (Map h xs b) (Two a n m) k → HaveOneOwner bases (written names (Map h xs b) (Two a n m)) (position bases (Two a n m) k) (map_over (kind_of h) (written names b m)) (k / row ∷ position bases m (k % row))
     map_found s = subst (λ (r : ℕ). HaveOneOwner bases (written names (Map h xs b) (Two a n m)) (position bases (Two a n m) k) (map_over (kind_of h) (written names b m)) (k / r ∷ position bases m (k % r))) (row_is s) (on_map h xs b a n m k s)
 
+    pub none_in_row : row ≡ 0 → IsScalarOf names sizes (Map h xs b) (Two a n m) k → HaveOneOwner bases (written names (Map h xs b) (Two a n m)) (position bases (Two a n m) k) (Literal 0) []
+    none_in_row e s = let some = row_some h xs b a n m k s in let is = row_is s in absurd (omega (arith, some, is, e))
+
     pub map_body : IsScalarOf names sizes (Map h xs b) (Two a n m) k → IsScalarOf names sizes b m (k % row)
     map_body s = subst (λ (r : ℕ). IsScalarOf names sizes b m (k % r)) (row_is s) (in_body h xs b a n m k s)
+
+-- a part of a term's part is smaller than the term
+pub smaller : (found : Option OnTop) (n m : ℕ) → n < m → IfSome found (λ top. nodes (tree_of top.body.now) < n) → IfSome found (λ top. nodes (tree_of top.body.now) < m)
+smaller None n m e h = tt
+smaller (Some top) n m e h = omega arith

@@ -2,21 +2,39 @@
 use Rattle.std.specs.Prelude.{◌≡◌, ℕ, List, [], ◌∷◌}
 use Rattle.size_arith.specs.declared.names.Name.{Name}
 use Rattle.kernel_tree.specs.Launch.{Launch}
+use Rattle.lift_tree.specs.declared.term.Dimension.{Dimension}
+use Rattle.lift_tree.specs.declared.term.Dimension.TheVariants.{X, Y}
 use Rattle.lift_tree.specs.Annotations.{Annotation, annotation_of, type_in}
 use Rattle.lift_tree.specs.Tree.{Tree, tree_of}
 use Rattle.lift_ir.specs.AtLaunch.{length_at, ty_at}
 use Rattle.lift_ir.specs.Lowering.{Lowered, Written, kind_of, lower}
-use Rattle.lift_ir.specs.Owner.{local_owner, owner}
-use Rattle.lift_ir.specs.Terms.{Kind, Literal, Map, Skip}
+use Rattle.lift_ir.specs.Owner.{local_owner, local_row_owner, column_owner, row_owner}
+use Rattle.lift_ir.specs.Terms.{Kind, Term, Literal, Map, Skip}
 use Rattle.lift_ir.specs.Types.{unflat}
 use Rattle.output_owner.specs.declared.walk.OnTop.{OnTop}
+
+-- of sizes along a row and from row to row, that along this dimension
+abbrev pub along : Dimension → ℕ × ℕ → ℕ
+along X sizes = sizes.0
+along Y sizes = sizes.1
+
+-- in which column of the launch the owner of the scalar at a position is, or in which row
+abbrev pub owner_along : Dimension → {A : Type 0} → (A → ℕ) → Launch → Term A → List ℕ → ℕ
+owner_along X = column_owner
+owner_along Y = row_owner
+
+-- and of its group
+abbrev pub local_along : Dimension → {A : Type 0} → (A → ℕ) → Launch → Term A → List ℕ → ℕ
+local_along X = local_owner
+local_along Y = local_row_owner
 
 -- two scalars have one owner, and are of one item of a group, at every launch
 pub record HaveOneOwner (bases : List ℕ) (t : Lowered) (q : List ℕ) (u : Lowered)
     (p : List ℕ) : Type 0 where
-  pub item : (l : Launch) → owner (length_at bases) l t q ≡ owner (length_at bases) l u p
-  pub local : (l : Launch)
-      → local_owner (length_at bases) l t q ≡ local_owner (length_at bases) l u p
+  pub item : (d : Dimension) (l : Launch)
+      → owner_along d (length_at bases) l t q ≡ owner_along d (length_at bases) l u p
+  pub local : (d : Dimension) (l : Launch)
+      → local_along d (length_at bases) l t q ≡ local_along d (length_at bases) l u p
 
 -- the position of the scalar of this number
 abbrev pub position : (bases : List ℕ) → Annotation → ℕ → List ℕ
@@ -42,11 +60,3 @@ IsOfTop names bases t n number top =
 abbrev pub IsOfNone : List Name → (bases : List ℕ) → Tree → Annotation → ℕ → Type 0
 IsOfNone names bases t n number =
     HaveOneOwner bases (written names t n) (position bases n number) (Literal 0) []
-
--- the owner of the scalar of the map on top
-abbrev pub owner_on_top : List Name → (bases : List ℕ) → Launch → OnTop → ℕ
-owner_on_top names bases l top =
-    owner (length_at bases) l
-    (map_over (kind_of top.kind)
-    (written names (tree_of top.body.now) (annotation_of top.types.now)))
-    (top.turn ∷ position bases (annotation_of top.types.now) top.number)

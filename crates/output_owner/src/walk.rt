@@ -2,7 +2,7 @@
 
 ghost use Rattle.std.specs.Prelude.{◌≡◌, ◌*◌, ◌<◌, ◌^◌, IfSome, MatchOption};
 ghost use Rattle.lift_tree.specs.Annotations.{annotation_of};
-ghost use Rattle.lift_tree.specs.Tree.{tree_of};
+ghost use Rattle.lift_tree.specs.Tree.{nodes, tree_of};
 ghost use Rattle.lift_tree.specs.Types.{ty_of};
 ghost use Rattle.launch_lengths.specs.Bases.{bases_of};
 ghost use Rattle.output_owner.specs.Owners.{IsOfNone, IsOfTop};
@@ -159,6 +159,8 @@ pub fn on_top<'t>(
     ensures body { IsScalarOf names.now sizes.now (tree_of term.now) (annotation_of types.now) number
         → IfSome result (λ top. IsScalarOf names.now sizes.now (tree_of top.body.now)
         (annotation_of top.types.now) top.number) }
+    ensures smaller { IfSome result (λ top.
+        nodes (tree_of top.body.now) < nodes (tree_of term.now)) }
 {
     match term {
         Term::Unary(form, a) => match types {

@@ -112,7 +112,9 @@ drop_beyond zero (x ∷ xs) h = absurd (omega arith)
 drop_beyond (suc n) [] h = refl
 drop_beyond (suc n) (x ∷ xs) h = drop_beyond n xs (omega arith)
 
-pub ruleset cuts = (value_of-List, push_behind, pieces_next, append_assoc, take_values, drop_values, take_min, drop_beyond)
+pub ruleset cuts = (value_of-List, pieces_next, take_values, drop_values)
+
+pub ruleset cut_pieces = (value_of-List, push_behind, append_assoc, append-nil)
 
 pub ruleset counts = (length-values, div-zero)
 

@@ -1,7 +1,7 @@
 -- The values of bodies under binders.
 use Rattle.std.proofs.Common.{◌≡◌, ℕ, zero, suc, ◌≢◌, List, [], ◌∷◌, ◌++◌, ◌+◌, ◌<◌, length, take, map, refl, sym, ap, ◌∙◌}
 use Rattle.std.specs.Prelude.{get_or}
-use Rattle.std.proofs.lemmas.List.{map_more}
+use Rattle.std.proofs.lemmas.List.{append_assoc, append-nil, map_more}
 use Rattle.scalar_ops.specs.declared.op.Reducer.{Reducer}
 use Rattle.scalar_ops.specs.Operators.{combine, choose}
 use Rattle.lift_tree.specs.declared.term.MapKind.{MapKind}
@@ -11,6 +11,7 @@ use Rattle.lift_tree.specs.declared.value.Val.{Val}
 use Rattle.lift_tree.specs.Meaning.{World, meaning, binary_value}
 use Rattle.lift_tree.specs.Tree.{Tree, Map, Fold}
 use Rattle.lift_tree.specs.Values.{Value, Word, array, members, word, value_of}
+use Rattle.lift_tree.proofs.Members.{members-array}
 use Rattle.pattern_value.specs.declared.evaluate.World as held
 use Rattle.pattern_value.specs.World.{world_of}
 use Rattle.pattern_value.specs.Shut.{map_under, fold_under, fold_by}
@@ -44,6 +45,10 @@ unfolding map_under
 map_under_push w vs b [] x = refl
 map_under_push w vs b (y ∷ xs) x = ap (λ zs. meaning w (y ∷ vs) b ∷ zs) (map_under_push w vs b xs x)
 
+pub map_under_next : (w : World) (vs : List Value) (b : Tree) (x : Value) (xs : List Value) → map_under w vs b (x ∷ xs) ≡ meaning w (x ∷ vs) b ∷ map_under w vs b xs
+unfolding map_under
+map_under_next w vs b x xs = refl
+
 -- one member more
 pub map_under_more : (w : World) (vs : List Value) (b : Tree) (xs : List Val) (i : ℕ) (d : Val) → i < length xs → map_under w vs b (map value_of (take (i + 1) xs)) ≡ map_under w vs b (map value_of (take i xs)) ++ meaning w (value_of (get_or xs i d) ∷ vs) b ∷ []
 map_under_more w vs b xs i d h = ap (map_under w vs b) (map_more value_of xs i d h) ∙ map_under_push w vs b (map value_of (take i xs)) (value_of (get_or xs i d))
@@ -69,6 +74,10 @@ choose-nonzero (suc n) a b h = refl
 
 pub ruleset under =
     (push_behind, map_under-none, map_under_more, fold_under-none, fold_under_more, choose-zero, choose-nonzero)
+
+pub ruleset members_of_pieces = (members-array)
+
+pub ruleset under_pieces = (push_behind, map_under-none, map_under_next, append_assoc, append-nil)
 
 -- ---- folds by an operator
 pub reduce_value : (r : Reducer) (v u : Value) → binary_value (binary.Reduce r) v u ≡ array (fold_by r u (members v) ∷ [])

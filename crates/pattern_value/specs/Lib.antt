@@ -1,3 +1,4 @@
 pub mod Held
+pub mod Pieces
 pub mod Shut
 pub mod World

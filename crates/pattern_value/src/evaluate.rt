@@ -3,16 +3,17 @@
 ghost use Rattle.std.specs.Prelude.{◌≡◌, ◌∷◌, ◌/◌, [], IfOk, map, min, length};
 ghost use Rattle.size_arith.specs.Ranges.{sizes_at};
 ghost use Rattle.lift_tree.specs.Lists.{pieces, strided};
-ghost use Rattle.lift_tree.specs.Meaning.{meaning, layout_value, unary_value, binary_value, array_of_rows, product_at, factor_at, nth_size};
+ghost use Rattle.lift_tree.specs.Meaning.{meaning, layout_value, unary_value, binary_value, product_at, factor_at, nth_size};
 ghost use Rattle.lift_tree.specs.Tree as tree;
 ghost use Rattle.lift_tree.specs.Tree.{tree_of};
 ghost use Rattle.lift_tree.specs.Values.{value_of, array, members, nth};
 ghost use Rattle.lift_tree.specs.WorkedOut.{range_of};
 ghost use Rattle.pattern_value.specs.Held.{held, values_in};
+ghost use Rattle.pattern_value.specs.Pieces.{pieces_in};
 ghost use Rattle.pattern_value.specs.Shut.{map_under, fold_under, fold_by};
 ghost use Rattle.pattern_value.specs.World.{world_of};
 
-use crate::layout::{cut, joined, pad, reversed, slid, transposed, zipped};
+use crate::layout::{Pieces, joined, pad, reversed, transposed, windows, zipped};
 use crate::lent::Held;
 use crate::operator::{applied, combined, quotient, remainder};
 use crate::part::{list, members_of, word_of};
@@ -70,17 +71,22 @@ impl World<'_> {
 
     // The consecutive pieces of this length.
     #[tactic(auto, using(crate::proofs::Sizes::splits))]
-    fn split(&self, alloc: Global, factors: &[Factor], v: &Val) -> Result<Val, AllocError>
-        ensures { IfOk result (λ u. value_of u ≡ array_of_rows (pieces
+    fn split<'v>(&self, factors: &[Factor], v: &'v Val) -> Pieces<'v>
+        ensures { pieces_in result ≡ map array (pieces
             (length (members (value_of v.now)) / product_at (world_of self.now).sizes factors.now)
             (product_at (world_of self.now).sizes factors.now)
             (product_at (world_of self.now).sizes factors.now)
-            (members (value_of v.now)))) }
+            (members (value_of v.now))) }
     {
-        let xs = members_of(v);
+        let members = members_of(v);
         let size = self.product(factors) as usize;
-        let count = if size == 0 { 0 } else { xs.len() / size };
-        cut(alloc, xs, count, size, size)
+        let count = if size == 0 { 0 } else { members.len() / size };
+        Pieces {
+            members,
+            count,
+            size,
+            step: size,
+        }
     }
 
     // The columns of the pieces of this length, one after another.
@@ -89,7 +95,7 @@ impl World<'_> {
         ensures { IfOk result (λ u. value_of u ≡ array (strided
             (product_at (world_of self.now).sizes factors.now) (members (value_of v.now)))) }
     {
-        let pieces = self.split(alloc, factors, v)?;
+        let pieces = self.split(factors, v).cut(alloc)?;
         let columns = transposed(alloc, &pieces)?;
         Ok(joined(alloc, columns)?)
     }
@@ -113,7 +119,7 @@ impl World<'_> {
         match layout {
             Layout::Join => joined(alloc, v.into_owned(alloc)?),
             Layout::Transpose => transposed(alloc, v.as_val()),
-            Layout::Split(length) => self.split(alloc, length.factors(), v.as_val()),
+            Layout::Split(length) => self.split(length.factors(), v.as_val()).cut(alloc),
             Layout::Reverse => Ok(reversed(alloc, v.into_owned(alloc)?)),
             Layout::Stride(step) => self.stride(alloc, step.factors(), v.as_val()),
         }
@@ -135,7 +141,7 @@ impl World<'_> {
             UnaryForm::Second => Ok(v.into_second()),
             UnaryForm::Layout(layout) => Ok(Held::Owned(self.layout(alloc, layout, v)?)),
             UnaryForm::Slide(size, step) => {
-                Ok(Held::Owned(slid(alloc, v.as_val(), *size, *step)?))
+                Ok(Held::Owned(windows(v.as_val(), *size, *step).cut(alloc)?))
             }
             UnaryForm::Pad(before, after) => {
                 Ok(Held::Owned(pad(alloc, v.as_val(), *before, *after)?))
@@ -227,8 +233,39 @@ impl World<'_> {
             (values_in scope.now) (tree_of body.now) (members (meaning (world_of self.now)
             (values_in scope.now) (tree_of xs.now))))) }
     {
-        let xs = self.value(alloc, scope, xs)?;
-        Ok(list(self.mapped(alloc, scope, members_of(xs.as_val()), body)?))
+        let all = self.mapped_array(alloc, scope, xs, body)?;
+        Ok(list(all))
+    }
+
+    // The body's value at each member; pieces are cut one by one, as the map comes to them.
+    #[tactic(auto, using(crate::proofs::Under::members_of_pieces))]
+    #[cycle(valuing)]
+    fn mapped_array<'s>(
+        &'s self,
+        alloc: Global,
+        scope: &Scope<'s>,
+        xs: &Term,
+        body: &Term,
+    ) -> Result<Vec<Val>, AllocError>
+        ensures { IfOk result (λ c. map value_of c.items ≡ map_under (world_of self.now)
+            (values_in scope.now) (tree_of body.now) (members (meaning (world_of self.now)
+            (values_in scope.now) (tree_of xs.now)))) }
+    {
+        match xs {
+            Term::Unary(UnaryForm::Slide(size, step), array) => {
+                let array = self.value(alloc, scope, array)?;
+                self.mapped_pieces(alloc, scope, windows(array.as_val(), *size, *step), body)
+            }
+            Term::Unary(UnaryForm::Layout(Layout::Split(length)), array) => {
+                let array = self.value(alloc, scope, array)?;
+                let pieces = self.split(length.factors(), array.as_val());
+                self.mapped_pieces(alloc, scope, pieces, body)
+            }
+            _ => {
+                let array = self.value(alloc, scope, xs)?;
+                self.mapped(alloc, scope, members_of(array.as_val()), body)
+            }
+        }
     }
 
     #[cycle(valuing)]
@@ -283,6 +320,28 @@ impl World<'_> {
         let mut all = Vec::new(alloc);
         for x in xs {
             all.push(self.under(alloc, scope, x, body)?)?;
+        }
+        Ok(all)
+    }
+
+    #[tactic(auto, using(crate::proofs::Under::under_pieces))]
+    #[cycle(valuing)]
+    fn mapped_pieces(
+        &self,
+        alloc: Global,
+        scope: &Scope<'_>,
+        pieces: Pieces<'_>,
+        body: &Term,
+    ) -> Result<Vec<Val>, AllocError>
+        ensures { IfOk result (λ c. map value_of c.items ≡ map_under (world_of self.now)
+            (values_in scope.now) (tree_of body.now) (pieces_in pieces.entry)) }
+    {
+        let mut all = Vec::new(alloc);
+        let mut left = pieces;
+        while left.count > 0 {
+            let piece = left.first(alloc)?;
+            all.push(self.under(alloc, scope, &piece, body)?)?;
+            left = left.rest();
         }
         Ok(all)
     }

@@ -1,9 +1,10 @@
 //! The patterns that lay out the members of lists anew.
 
-ghost use Rattle.std.specs.Prelude.{◌≡◌, ◌++◌, [], ◌/◌, IfOk, OnOk, map, replicate, reverse, length, take, drop};
+ghost use Rattle.std.specs.Prelude.{◌≡◌, ◌++◌, ◌∷◌, ◌<◌, [], ◌/◌, IfOk, OnOk, map, replicate, reverse, length, take, drop};
 ghost use Rattle.lift_tree.specs.Values.{Both, value_of, members, array, nth};
 ghost use Rattle.lift_tree.specs.Lists.{concat, zip_with, pieces, pieces_that_fit, padded, width, columns};
 ghost use Rattle.lift_tree.specs.Meaning.{rows, array_of_rows};
+ghost use Rattle.pattern_value.specs.Pieces.{pieces_in};
 ghost use Rattle.pattern_value.specs.Shut.{column};
 
 use crate::part::{all_copied, copied, copied_at, into_members, list, members_of};
@@ -84,27 +85,54 @@ pub fn reversed(alloc: Global, v: Val) -> Val
     list(all)
 }
 
-/// So many pieces of `size` members, each `step` members further on.
-#[tactic(auto, using(crate::proofs::Layouts::cuts))]
-pub fn cut(
-    alloc: Global,
-    xs: &[Val],
-    count: usize,
-    size: usize,
-    step: usize,
-) -> Result<Val, AllocError>
-    ensures { IfOk result (λ u. value_of u
-        ≡ array_of_rows (pieces count size step (map value_of xs.now))) }
-{
-    let mut rows = Vec::new(alloc);
-    let mut rest = xs;
-    let mut left = count;
-    while left > 0 {
-        rows.push(list(all_copied(alloc, taken(rest, size))?))?;
-        rest = dropped(rest, step);
-        left -= 1;
+/// Pieces of a list: so many of `size` members, each `step` members further on.
+#[derive(Clone, Copy)]
+pub struct Pieces<'v> {
+    pub members: &'v [Val],
+    pub count: usize,
+    pub size: usize,
+    pub step: usize,
+}
+
+impl<'v> Pieces<'v> {
+    /// The first piece, in memory of its own.
+    #[tactic(auto, using(crate::proofs::Layouts::cuts))]
+    pub fn first(&self, alloc: Global) -> Result<Val, AllocError>
+        ensures { IfOk result (λ v. value_of v
+            ≡ array (take self.now.size (map value_of self.now.members.now))) }
+    {
+        Ok(list(all_copied(alloc, taken(self.members, self.size))?))
     }
-    Ok(list(rows))
+
+    /// The pieces behind the first.
+    #[tactic(auto, using(crate::proofs::Layouts::cuts))]
+    pub fn rest(&self) -> Pieces<'v>
+        requires { 0 < self.now.count }
+        ensures pieces { pieces_in self.now
+            ≡ array (take self.now.size (map value_of self.now.members.now)) ∷ pieces_in result }
+        ensures fewer { result.count < self.now.count }
+    {
+        Pieces {
+            members: dropped(self.members, self.step),
+            count: self.count - 1,
+            size: self.size,
+            step: self.step,
+        }
+    }
+
+    /// The list of the pieces.
+    #[tactic(auto, using(crate::proofs::Layouts::cut_pieces))]
+    pub fn cut(self, alloc: Global) -> Result<Val, AllocError>
+        ensures { IfOk result (λ u. value_of u ≡ array (pieces_in self.entry)) }
+    {
+        let mut rows = Vec::new(alloc);
+        let mut left = self;
+        while left.count > 0 {
+            rows.push(left.first(alloc)?)?;
+            left = left.rest();
+        }
+        Ok(list(rows))
+    }
 }
 
 #[tactic(auto, using(crate::proofs::Layouts::take_min))]
@@ -123,19 +151,23 @@ fn dropped(xs: &[Val], count: usize) -> &[Val]
 
 /// The pieces of `size` members that begin at 0 and at each multiple of `step`, while they fit.
 #[tactic(auto, using(crate::proofs::Layouts::counts))]
-pub fn slid(alloc: Global, v: &Val, size: u32, step: u32) -> Result<Val, AllocError>
-    ensures { IfOk result (λ u. value_of u
-        ≡ array_of_rows (pieces (pieces_that_fit size step
-        (length (members (value_of v.now)))) size step (members (value_of v.now)))) }
+pub fn windows(v: &Val, size: u32, step: u32) -> Pieces<'_>
+    ensures { pieces_in result ≡ map array (pieces (pieces_that_fit size step
+        (length (members (value_of v.now)))) size step (members (value_of v.now))) }
 {
-    let xs = members_of(v);
+    let members = members_of(v);
     let (size, step) = (size as usize, step as usize);
     let count = if step == 0 {
         0
     } else {
-        (xs.len() + step).saturating_sub(size) / step
+        (members.len() + step).saturating_sub(size) / step
     };
-    cut(alloc, xs, count, size, step)
+    Pieces {
+        members,
+        count,
+        size,
+        step,
+    }
 }
 
 /// So many copies of the first member before, and so many of the last after.

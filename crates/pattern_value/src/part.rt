@@ -28,9 +28,13 @@ pub fn copied(alloc: Global, v: &Val) -> Result<Val, AllocError>
 pub fn all_copied(alloc: Global, xs: &[Val]) -> Result<Vec<Val>, AllocError>
     ensures { IfOk result (λ c. map value_of c.items ≡ map value_of xs.now) }
 {
-    let mut all = Vec::new(alloc);
+    let mut all = Vec::with_capacity(alloc, xs.len())?;
     for x in xs {
-        all.push(copied(alloc, x)?)?;
+        let x = match x {
+            Val::Number(n) => Val::Number(*n),
+            Val::Pair(_, _) | Val::List(_) => copied(alloc, x)?,
+        };
+        all.push(x)?;
     }
     Ok(all)
 }

@@ -2,6 +2,8 @@ mod Scopes
 mod Loops
 mod Touching
 mod Going
+mod Bodies
+mod Unaligned
 mod Found
 mod Forms
 mod Standing

@@ -1,4 +1,5 @@
 pub mod Origins
+pub mod Bodies
 pub mod Walks
 pub mod Phases
 pub mod Planned

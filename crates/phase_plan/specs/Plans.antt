@@ -13,7 +13,7 @@ abbrev pub declared_in : Plan → Declared
 declared_in plan = declared_of plan.spaced.now.mapped.lowered
 
 -- the local size of all launches, where one is fixed
-abbrev pub local_in : Plan → Option ℕ
+abbrev pub local_in : Plan → Option (ℕ × ℕ)
 local_in plan = plan.spaced.now.mapped.local
 
 -- the term

@@ -11,4 +11,6 @@ pub enum Kind {
     OverLaunch,
     /// Work-groups, in phases: a `mapWrg` is on top.
     OverGroups(Phases),
+    /// Rows of work-groups, in phases: a `mapWrg1` is on top.
+    OverGrid(Phases),
 }

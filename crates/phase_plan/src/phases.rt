@@ -3,11 +3,14 @@
 ghost use Rattle.std.specs.Prelude.{IfOk};
 ghost use Rattle.lowering.specs.Terms.{term_of};
 ghost use Rattle.group_form.specs.Forms.{StandsOverGroups};
+ghost use Rattle.group_form.specs.GridTerms.{StandsOverGrid, grid_touches};
+ghost use Rattle.group_form.specs.GridTheorem.{grid_phase_count};
+ghost use Rattle.group_form.specs.Uses.{group_touches, phase_count};
 ghost use Rattle.phase_plan.specs.Phases.{ArePhasesOf};
 
 use crate::walk::Walk;
 use barrier_placement::{Barriers, Touch, place};
-use group_form::laws::uses_tell_barriers;
+use group_form::laws::{grids_keep, uses_tell_barriers};
 use lowering::term::Term;
 use std::alloc::{AllocError, Global};
 
@@ -35,7 +38,8 @@ impl Phases {
     pub fn of(alloc: Global, root: &Term, once: bool) -> Result<Self, AllocError>
         requires { StandsOverGroups (term_of root.now) }
         ensures { IfOk result (λ phases.
-            ArePhasesOf (term_of root.now) once phases.count phases.touches.items phases.barriers.items) }
+            ArePhasesOf (group_touches (term_of root.now)) (phase_count (term_of root.now)) once
+            phases.count phases.touches.items phases.barriers.items) }
     {
         uses_tell_barriers();
         let Walk {
@@ -43,6 +47,27 @@ impl Phases {
             touches,
             ..
         } = Walk::through(alloc, root)?;
+        let barriers = place(alloc, &touches, count, once)?;
+        Ok(Phases {
+            count,
+            touches,
+            barriers,
+        })
+    }
+
+    /// The same of a map over rows of work-groups, in whose pairs of maps no use is aligned.
+    pub fn of_grid(alloc: Global, root: &Term, once: bool) -> Result<Self, AllocError>
+        requires { StandsOverGrid (term_of root.now) }
+        ensures { IfOk result (λ phases.
+            ArePhasesOf (grid_touches (term_of root.now)) (grid_phase_count (term_of root.now)) once
+            phases.count phases.touches.items phases.barriers.items) }
+    {
+        grids_keep();
+        let Walk {
+            phases: count,
+            touches,
+            ..
+        } = Walk::through_grid(alloc, root)?;
         let barriers = place(alloc, &touches, count, once)?;
         Ok(Phases {
             count,

@@ -1,14 +1,18 @@
 //! The walk through a body, phase by phase.
 
-ghost use Rattle.std.specs.Prelude.{◌≡◌, ◌+◌, ◌++◌, [], ◌∷◌, IfOk, OnOk, false, true};
+ghost use Rattle.std.specs.Prelude.{◌≡◌, ◌+◌, ◌++◌, [], ◌∷◌, map, IfOk, OnOk, false, true};
 ghost use Rattle.lift_tree.specs.Types.{ty_of};
 ghost use Rattle.lift_ir.specs.AtLaunch.{ty_at};
 ghost use Rattle.lift_ir.specs.Types.{width};
 ghost use Rattle.lowering.specs.Terms.{load_set_of, term_of};
 ghost use Rattle.printed_form.specs.Counts.{local_count};
-ghost use Rattle.group_form.specs.Forms.{StandsInGroup, StandsOverGroups};
+ghost use Rattle.group_form.specs.Forms.{StandsOverGroups};
+ghost use Rattle.group_form.specs.GridTerms as grids;
+ghost use Rattle.group_form.specs.GridTerms.{StandsAlongGroups, StandsOverGrid};
+ghost use Rattle.group_form.specs.GridTheorem.{grid_phase_count, phases_along};
 ghost use Rattle.group_form.specs.Origins as origins;
 ghost use Rattle.group_form.specs.Uses as uses;
+ghost use Rattle.phase_plan.specs.Bodies.{IsOfPhases, unaligned};
 ghost use Rattle.phase_plan.specs.Origins.{origin_in, origins_in};
 ghost use Rattle.phase_plan.specs.Walks.{destination_from, origin_from, width_of, GoesOn};
 
@@ -139,7 +143,7 @@ impl Walk {
     // The phases of an argument. Gives where it lies.
     #[cycle(walking)]
     fn argument(&mut self, alloc: Global, scope: &Scope, term: &Term) -> Result<Origin, AllocError>
-        requires { StandsInGroup false (term_of term.now) }
+        requires { IsOfPhases false (term_of term.now) }
         ensures origin { IfOk result (λ o. origin_in o
             ≡ origins.origin_of (origins_in scope.now) self.old.arrays (term_of term.now)) }
         ensures goes_on { OnOk result (GoesOn self.old self.new
@@ -190,7 +194,7 @@ impl Walk {
         to: Destination,
         direct: bool,
     ) -> Result<Origin, AllocError>
-        requires { StandsInGroup true (term_of term.now) }
+        requires { IsOfPhases true (term_of term.now) }
         ensures origin { IfOk result (λ o. origin_in o
             ≡ origin_from (self.old.arrays + local_count (term_of term.now)) to.entry) }
         ensures goes_on { OnOk result (GoesOn self.old self.new
@@ -229,7 +233,21 @@ impl Walk {
         }
     }
 
+    // What is met in the body of a map over work-groups.
+    fn through_body(alloc: Global, body: &Term) -> Result<Self, AllocError>
+        requires { IsOfPhases true (term_of body.now) }
+        ensures phases { IfOk result
+            (λ walk. walk.phases ≡ uses.phases_in (term_of body.now)) }
+        ensures touches { IfOk result
+            (λ walk. walk.touches.items ≡ uses.numbered 0 (uses.body_uses (term_of body.now))) }
+    {
+        let mut walk = Walk::new(alloc);
+        walk.written(alloc, &Scope::Empty, body, Destination::Outputs, false)?;
+        Ok(walk)
+    }
+
     /// What is met in a map over work-groups, seen through layouts and lets of inputs.
+    #[tactic(auto, using(crate::proofs::Bodies::of_groups))]
     pub fn through(alloc: Global, root: &Term) -> Result<Self, AllocError>
         requires { StandsOverGroups (term_of root.now) }
         ensures phases { IfOk result
@@ -237,12 +255,9 @@ impl Walk {
         ensures touches { IfOk result
             (λ walk. walk.touches.items ≡ uses.group_touches (term_of root.now)) }
     {
-        let mut walk = Walk::new(alloc);
         match root {
-            Term::Reshape(_, term) | Term::LetArray(_, term) => return Walk::through(alloc, term),
-            Term::Map(map) => {
-                walk.written(alloc, &Scope::Empty, &map.body, Destination::Outputs, false)?;
-            }
+            Term::Reshape(_, term) | Term::LetArray(_, term) => Walk::through(alloc, term),
+            Term::Map(map) => Walk::through_body(alloc, &map.body),
             Term::Literal(_)
             | Term::Bound(_)
             | Term::Source(_)
@@ -256,8 +271,89 @@ impl Walk {
             | Term::LetElement(_, _, _)
             | Term::Fold(_)
             | Term::Store(_, _)
-            | Term::Copy(_, _, _) => {}
+            | Term::Copy(_, _, _) => Ok(Walk::new(alloc)),
         }
-        Ok(walk)
     }
+
+    // What is met in a map over the groups of a row, seen through layouts. No use is aligned.
+    fn through_row(alloc: Global, row: &Term) -> Result<Self, AllocError>
+        requires { StandsAlongGroups (term_of row.now) }
+        ensures phases { IfOk result (λ walk. walk.phases ≡ phases_along (term_of row.now)) }
+        ensures touches { IfOk result
+            (λ walk. walk.touches.items ≡ uses.numbered 0 (grids.row_uses (term_of row.now))) }
+    {
+        match row {
+            Term::Reshape(_, term) => Walk::through_row(alloc, term),
+            Term::Map(map) => {
+                let Walk {
+                    phases,
+                    touches,
+                    arrays,
+                } = Walk::through_body(alloc, &map.body)?;
+                Ok(Walk {
+                    phases,
+                    touches: unaligned(alloc, &touches)?,
+                    arrays,
+                })
+            }
+            Term::Literal(_)
+            | Term::Bound(_)
+            | Term::Source(_)
+            | Term::Apply(_, _, _)
+            | Term::ApplyNumber(_, _, _)
+            | Term::Select(_, _, _)
+            | Term::Pair(_, _)
+            | Term::Zip(_, _)
+            | Term::First(_)
+            | Term::Second(_)
+            | Term::LetArray(_, _)
+            | Term::LetElement(_, _, _)
+            | Term::Fold(_)
+            | Term::Store(_, _)
+            | Term::Copy(_, _, _) => Ok(Walk::new(alloc)),
+        }
+    }
+
+    /// What is met in a map over rows of work-groups, seen through layouts and lets of inputs. No
+    /// use is aligned.
+    pub fn through_grid(alloc: Global, root: &Term) -> Result<Self, AllocError>
+        requires { StandsOverGrid (term_of root.now) }
+        ensures phases { IfOk result
+            (λ walk. walk.phases ≡ grid_phase_count (term_of root.now)) }
+        ensures touches { IfOk result
+            (λ walk. walk.touches.items ≡ grids.grid_touches (term_of root.now)) }
+    {
+        match root {
+            Term::Reshape(_, term) | Term::LetArray(_, term) => Walk::through_grid(alloc, term),
+            Term::Map(map) => Walk::through_row(alloc, &map.body),
+            Term::Literal(_)
+            | Term::Bound(_)
+            | Term::Source(_)
+            | Term::Apply(_, _, _)
+            | Term::ApplyNumber(_, _, _)
+            | Term::Select(_, _, _)
+            | Term::Pair(_, _)
+            | Term::Zip(_, _)
+            | Term::First(_)
+            | Term::Second(_)
+            | Term::LetElement(_, _, _)
+            | Term::Fold(_)
+            | Term::Store(_, _)
+            | Term::Copy(_, _, _) => Ok(Walk::new(alloc)),
+        }
+    }
+}
+
+// The uses, of which none is told as aligned.
+fn unaligned(alloc: Global, touches: &[Touch]) -> Result<Vec<Touch>, AllocError>
+    ensures { IfOk result (λ all. all.items ≡ map unaligned touches.now) }
+{
+    let mut all = Vec::new(alloc);
+    for touch in touches {
+        all.push(Touch {
+            aligned: false,
+            ..*touch
+        })?;
+    }
+    Ok(all)
 }

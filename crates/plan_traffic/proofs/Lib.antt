@@ -4,3 +4,4 @@ pub mod Barriers
 pub mod Groups
 pub mod Plans
 pub mod Told
+pub mod Held

@@ -14,7 +14,7 @@ use Rattle.printed_form.specs.Programs.{AreBuffersOf, IsLaunchOf}
 use Rattle.group_form.specs.Kernels.{AreNeededBy, PrintsBy}
 use Rattle.phase_plan.specs.Plans.{declared_in, local_in, tree_in, types_in, IsTold}
 use Rattle.phase_plan.specs.declared.kind.Kind.{Kind}
-use Rattle.phase_plan.specs.declared.kind.Kind.TheVariants.{Task, OverLaunch, OverGroups}
+use Rattle.phase_plan.specs.declared.kind.Kind.TheVariants.{Task, OverLaunch, OverGroups, OverGrid}
 use Rattle.phase_plan.specs.declared.planned.Plan.{Plan}
 use Rattle.term_traffic.specs.Laws.{HasTraffic}
 use Rattle.term_traffic.specs.Traffic.{ItemTraffic}
@@ -29,7 +29,8 @@ bases_at plan l = bases_of (declared_in plan).names l.sizes
 -- the launch is admissible for the plan's term
 abbrev pub IsLaunchFor : Plan → Launch → Type 0
 IsLaunchFor plan l =
-    IsLaunchOf (declared_in plan) (asks_of (local_in plan) (tree_in plan)) (bases_at plan l) l
+    IsLaunchOf (declared_in plan) (asks_of (local_in plan) (tree_in plan)) (bases_at plan l)
+    (tree_in plan) (types_in plan) l
 
 -- the numbers are these, each held
 pub record IsHeld (n : ItemTraffic) (x : Traffic) : Type 0 where
@@ -44,6 +45,7 @@ abbrev pub fence_of : Kind → ℕ → Fencing
 fence_of Task = λ q. Open
 fence_of OverLaunch = λ q. Open
 fence_of (OverGroups phases) = fence phases.count phases.barriers.items
+fence_of (OverGrid phases) = fence phases.count phases.barriers.items
 
 -- at each admissible launch and on all inputs, every run that can't go on, of a kernel that is
 -- printed for a plan's term, has the traffic that the plan tells
@@ -52,7 +54,8 @@ PlansTellTraffic =
     (plan : Plan) → IsSoundTerm (declared_in plan) (tree_in plan) (types_in plan) → IsTold plan
     → (w : World) (l : Launch) (c : Cells) (k : Kernel) (s : State) (es : List Event) (item : ℕ)
     → IsAdmissible (declared_in plan) w
-    → IsLaunchOf (declared_in plan) (asks_of (local_in plan) (tree_in plan)) w.bases l
+    → IsLaunchOf (declared_in plan) (asks_of (local_in plan) (tree_in plan)) w.bases
+    (tree_in plan) (types_in plan) l
     → AreBuffersOf (declared_in plan) w (tree_in plan) (types_in plan) c
     → PrintsBy (printer_for (tree_in plan)) (declared_in plan) (local_in plan) w.bases
     (tree_in plan) (types_in plan) l k

@@ -4,14 +4,14 @@ use Rattle.kernel_tree.specs.Formula.{Formula}
 use Rattle.kernel_tree.specs.Code.{Array, Private, Code, End, Performs, Assigns, Loads, Stores, Loops}
 use Rattle.kernel_tree.specs.Launch.{Launch}
 use Rattle.lift_ir.specs.Types.{Ty, Scalar, PairOf, ArrayOf, width}
-use Rattle.lift_ir.specs.Terms.{PrivateMemory, LoadSet, Skip, Take, Each, Kind, Global, Sequential, Term, Literal, Bound, Source, Apply, ApplyNumber, Select, Both, Project, Reshape, LetArray, LetElement, Map, Fold, Store, Copy, push}
+use Rattle.lift_ir.specs.Terms.{PrivateMemory, LoadSet, Skip, Take, Each, Kind, Global, GlobalRows, Sequential, Term, Literal, Bound, Source, Apply, ApplyNumber, Select, Both, Project, Reshape, LetArray, LetElement, Map, Fold, Store, Copy, push}
 use Rattle.lift_ir.specs.Scalars.{at_index}
 use Rattle.printed_form.specs.Marks.{Mark, Nowhere, Register, Spot, Marks, laid_in, held_marks, loaded_marks}
 use Rattle.lift_ir.specs.Layouts.{result_position}
 use Rattle.printed_form.specs.Form.{start_of, stride_of, IsAssigned, IsReassigned, IsElementWork, IsTurnOf, IsSpot, IsStored, IsLoaded, IsLoop, IsFoldTurn, argument_marks, IsArgumentWork, IsWritten}
 use Rattle.printed_form.specs.Counts.{let_variables, load_count, variable_count, private_count}
 use Rattle.printed_form.specs.Expressions.{held, exprs}
-use Rattle.printed_form.specs.Whole.{IsOverLaunch}
+use Rattle.printed_form.specs.Whole.{IsAlongRow, IsOverLaunch}
 use Rattle.printed_form.specs.Alike.{SameIndex, Alike}
 
 same_some : (f : Option Formula) (x y : Formula) → f ≡ Some x → f ≡ Some y → x ≡ y
@@ -115,13 +115,24 @@ module _ (grouped : Bool) (l : Launch) (item : ℕ) (ins : ℕ → Marks) where
         (alike_stored ts ty (λ cs. held (held_marks ty (n1 + let_variables s) cs [])) (at_index 0 w) x.3 y.3 c d x.8 y.8 h))))
     alike_written num _ ts env p n w a b c d x y h = absurd x
 
+  alike_along : {A : Type 0} (num : A → ℕ) (t : Term A) (ts : List ℕ) (env : ℕ → Marks) (p n : ℕ) (w : Marks) (a b c d : Code) → IsAlongRow l item ins num ts env p n t w a c → IsAlongRow l item ins num ts env p n t w b d → Alike grouped l item ts c d → Alike grouped l item ts a b
+  alike_along num (Reshape m t) ts env p n w a b c d x y h = alike_along num t ts env p n (λ cs q. w cs (result_position num m q)) a b c d x.1 y.1 h
+  alike_along num (Map Global len loads xs t) ts env p n w a b c d x y h =
+      let e = argument_marks l ins num env p xs in
+      alike_gathered num xs ts env p n a b x.0 y.0 x.1 y.1
+      (alike_loop ts Global (num len) _ x.0 y.0 c d x.2 y.2
+      (λ i lt own u v r s. alike_loaded (ts ++ i ∷ []) loads (at_index i e) (n + variable_count xs) u v r.0 s.0 r.1 s.1
+      (alike_written num t (ts ++ i ∷ []) (push (loaded_marks loads (at_index i e) (n + variable_count xs)) env) (p + private_count xs) (n + variable_count xs + load_count loads) (at_index i w) r.0 s.0 End End r.2 s.2 tt)) h)
+  alike_along num _ ts env p n w a b c d x y h = absurd x
+
   pub alike_over_launch : {A : Type 0} (num : A → ℕ) (t : Term A) (env : ℕ → Marks) (p n : ℕ) (w : Marks) (a b c d : Code) → IsOverLaunch l item ins num env p n t w a c → IsOverLaunch l item ins num env p n t w b d → Alike grouped l item [] c d → Alike grouped l item [] a b
   alike_over_launch num (Reshape m t) env p n w a b c d x y h = alike_over_launch num t env p n (λ cs q. w cs (result_position num m q)) a b c d x.1 y.1 h
   alike_over_launch num (LetArray v t) env p n w a b c d x y h = alike_gathered num v [] env p n a b x.0 y.0 x.1 y.1 (alike_over_launch num t (push (argument_marks l ins num env p v) env) (p + private_count v) (n + variable_count v) w x.0 y.0 c d x.2 y.2 h)
-  alike_over_launch num (Map Global len loads xs t) env p n w a b c d x y h =
+  alike_over_launch num (Map Global len loads xs t) env p n w a b c d x y h = alike_along num (Map Global len loads xs t) [] env p n w a b c d x y h
+  alike_over_launch num (Map GlobalRows len loads xs t) env p n w a b c d x y h =
       let e = argument_marks l ins num env p xs in
       alike_gathered num xs [] env p n a b x.0 y.0 x.1 y.1
-      (alike_loop [] Global (num len) _ x.0 y.0 c d x.2 y.2
+      (alike_loop [] GlobalRows (num len) _ x.0 y.0 c d x.2 y.2
       (λ i lt own u v r s. alike_loaded ([] ++ i ∷ []) loads (at_index i e) (n + variable_count xs) u v r.0 s.0 r.1 s.1
-      (alike_written num t ([] ++ i ∷ []) (push (loaded_marks loads (at_index i e) (n + variable_count xs)) env) (p + private_count xs) (n + variable_count xs + load_count loads) (at_index i w) r.0 s.0 End End r.2 s.2 tt)) h)
+      (alike_along num t ([] ++ i ∷ []) (push (loaded_marks loads (at_index i e) (n + variable_count xs)) env) (p + private_count xs) (n + variable_count xs + load_count loads) (at_index i w) r.0 s.0 End End r.2 s.2 tt)) h)
   alike_over_launch num _ env p n w a b c d x y h = absurd x

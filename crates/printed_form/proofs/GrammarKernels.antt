@@ -1,5 +1,5 @@
 -- The kernel that the printer makes of a typed term is of the kernel grammar.
-use Rattle.std.proofs.Common.{◌≡◌, ℕ, ◌+◌, ◌*◌, ◌≤◌, true, Option, Some, None, nat_lt, refl, arith}
+use Rattle.std.proofs.Common.{◌≡◌, ℕ, ◌+◌, ◌*◌, true, Option, Some, None, nat_lt, refl, arith}
 use Rattle.std.proofs.lemmas.Bool.{lt-ltb, le-leb, and_from}
 use Rattle.kernel_tree.specs.Code.{Output, End}
 use Rattle.kernel_tree.specs.Grammar.{is_group_size, largest_group}
@@ -8,7 +8,7 @@ use Rattle.lift_tree.specs.LocalSizes.{IsLocalSize}
 use Rattle.lift_ir.specs.AtLaunch.{shape_of}
 use Rattle.printed_form.specs.Views.{placed_view}
 use Rattle.printed_form.specs.Printer.{no_view}
-use Rattle.printed_form.specs.Programs.{lowered_root, row_of, printed_kernel}
+use Rattle.printed_form.specs.Programs.{lowered_root, printed_kernel}
 use Rattle.printed_form.proofs.Lengths.{counted}
 use Rattle.printed_form.specs.KernelGrammar.{KernelsAreOfTheGrammar}
 use Rattle.printed_form.specs.GrammarPieces.{CanBePrinted}
@@ -16,11 +16,10 @@ use Rattle.printed_form.proofs.GrammarViews.{blank_good}
 use Rattle.printed_form.proofs.GrammarPieces.{terms_printed}
 
 -- groups of a size that can be fixed are such as the grammar has
-pub is_size : (local : Option ℕ) → IsLocalSize local → is_group_size (row_of local) ≡ true
+pub is_size : (local : Option (ℕ × ℕ)) → IsLocalSize local → is_group_size local ≡ true
 is_size None h = refl
 is_size (Some size) h =
-    let few : size * 1 ≤ largest_group = omega arith in
-    and_from (nat_lt 0 size) _ (lt-ltb 0 size h.0) (and_from (nat_lt 0 1) _ refl (le-leb (size * 1) largest_group few))
+    and_from (nat_lt 0 size.0) _ (lt-ltb 0 size.0 h.0) (and_from (nat_lt 0 size.1) _ (lt-ltb 0 size.1 h.1) (le-leb (size.0 * size.1) largest_group h.2))
 
 pub of_the_grammar : KernelsAreOfTheGrammar
 of_the_grammar spell S M d local t a h =

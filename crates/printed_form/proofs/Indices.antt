@@ -6,14 +6,15 @@ use Rattle.std.proofs.Math.Nat.{mod-eq_of_lt, mul-le-mul_right, mul-le-mul_left,
 use Rattle.scalar_ops.specs.declared.op.Op.{Op}
 use Rattle.scalar_ops.specs.declared.op.Op.TheVariants.{Add, Sub, Mul, Min, Max, Div, Rem}
 use Rattle.scalar_ops.specs.Operators.{apply_op}
-use Rattle.kernel_tree.specs.declared.tree.Dimension.TheVariants.{X}
-use Rattle.kernel_tree.specs.Formula.{Formula, Number, LoopVariable, Size, Id, GroupId, LocalId, Binary, divides, operate, with_both, value}
+use Rattle.kernel_tree.specs.declared.tree.Dimension.{Dimension}
+use Rattle.kernel_tree.specs.declared.tree.Dimension.TheVariants.{X, Y}
+use Rattle.kernel_tree.specs.Formula.{IdForm, GlobalId, GroupId, LocalId, GlobalSize, GroupCount, LocalSize, Formula, Number, LoopVariable, Size, Id, Binary, divides, operate, with_both, value}
 use Rattle.kernel_tree.specs.Code.{Array}
 use Rattle.kernel_tree.specs.Launch.{Launch, ids_of}
 use Rattle.lift_ir.specs.Types.{Ty, Scalar, PairOf, ArrayOf, IsPosition, IsFlat, IsShort, width, component, size, flat, Shape, measured}
 use Rattle.lift_ir.specs.Layouts.{HasWordStep, Layout, Split, Join, Transpose, Reverse, Slide, Pad, operand_position, Reshapes, result_position, IsInvertible}
 use Rattle.printed_form.specs.Marks.{laid_in}
-use Rattle.printed_form.specs.Views.{same_operator, same_formula, are_parts, dividend, cell_in_rows, operand_indices, result_indices, laid_view, index_from, index_in, placed_view}
+use Rattle.printed_form.specs.Views.{same_operator, same_dimension, same_id_form, same_formula, are_parts, dividend, cell_in_rows, operand_indices, result_indices, laid_view, index_from, index_in, placed_view}
 use Rattle.printed_form.specs.Means.{IsSpelled, Means, AllMean, HasCells}
 use Rattle.lift_ir.proofs.Positions.{operand_in}
 use Rattle.lift_ir.proofs.Numbers.{flat_below}
@@ -59,11 +60,26 @@ module _ (l : Launch) (item : ℕ) {A : Type 0} (num : A → ℕ) (spell : A →
   operator_is Rem Rem h = refl
   operator_is _ _ h = absurd (cc h)
 
+  dimension_is : (d e : Dimension) → same_dimension d e ≡ true → d ≡ e
+  dimension_is X X h = refl
+  dimension_is Y Y h = refl
+  dimension_is _ _ h = absurd (cc h)
+
+  id_form_is : (f g : IdForm) → same_id_form f g ≡ true → f ≡ g
+  id_form_is GlobalId GlobalId h = refl
+  id_form_is GroupId GroupId h = refl
+  id_form_is LocalId LocalId h = refl
+  id_form_is GlobalSize GlobalSize h = refl
+  id_form_is GroupCount GroupCount h = refl
+  id_form_is LocalSize LocalSize h = refl
+  id_form_is _ _ h = absurd (cc h)
+
   formula_is : (f g : Formula) → same_formula f g ≡ true → f ≡ g
   formula_is (Number m) (Number n) h = ap Number (eqb-true m n h)
   formula_is (LoopVariable i) (LoopVariable j) h = ap LoopVariable (eqb-true i j h)
-  formula_is (Id X GroupId) (Id X GroupId) h = refl
-  formula_is (Id X LocalId) (Id X LocalId) h = refl
+  formula_is (Id d f) (Id e g) h =
+      let x = both_true (same_dimension d e) (same_id_form f g) h in
+      ap (λ z. Id z f) (dimension_is d e x.0) ∙ ap (Id e) (id_form_is f g x.1)
   formula_is (Size s) (Size t) h = ap Size (eqb-true s t h)
   formula_is (Binary o a b) (Binary p c d) h =
       let front = both_true (same_operator o p && same_formula a c) (same_formula b d) h in

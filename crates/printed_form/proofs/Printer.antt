@@ -5,18 +5,18 @@ use Rattle.kernel_tree.specs.Code.{Array, Private, Code, End, Performs, Assigns,
 use Rattle.kernel_tree.specs.Launch.{Launch}
 use Rattle.lift_ir.specs.Types.{Ty, Scalar, PairOf, ArrayOf, IsPosition, IsElement, width}
 use Rattle.lift_ir.specs.Layouts.{result_position}
-use Rattle.lift_ir.specs.Terms.{PrivateMemory, LoadSet, LoadsScalars, Global, Sequential, Term, Literal, Bound, Source, Apply, ApplyNumber, Select, Both, Project, Reshape, LetArray, LetElement, Map, Fold, Store, Copy, push, HasType}
+use Rattle.lift_ir.specs.Terms.{PrivateMemory, LoadSet, LoadsScalars, Global, GlobalRows, Sequential, Term, Literal, Bound, Source, Apply, ApplyNumber, Select, Both, Project, Reshape, LetArray, LetElement, Map, Fold, Store, Copy, push, HasType}
 use Rattle.lift_ir.specs.Scalars.{at_index}
 use Rattle.printed_form.specs.Arguments.{private_arrays, argument_view}
 use Rattle.printed_form.specs.Marks.{Mark, Nowhere, Register, Spot, Marks, laid_in, held_marks, loaded_marks}
 use Rattle.printed_form.specs.Form.{start_of, stride_of, IsAssigned, IsReassigned, IsElementWork, IsSpot, IsStored, IsFoldTurn, argument_marks, IsArgumentWork, IsWritten}
 use Rattle.printed_form.specs.Counts.{let_variables, load_count, variable_count, private_count}
 use Rattle.printed_form.specs.Expressions.{held, of_one, of_both, of_three, operation, selection, exprs}
-use Rattle.printed_form.specs.Whole.{IsOverLaunch}
+use Rattle.printed_form.specs.Whole.{IsAlongRow, IsOverLaunch}
 use Rattle.printed_form.specs.Views.{Sign, Blank, Held, Read, View, held_sign, held_view, loaded_view, view_at, result_indices, laid_view}
 use Rattle.printed_form.specs.Printer.{or_number, sign_exprs, print_assigned, print_reassigned, print_element, print_store, print_stored, print_loaded, print_fold_turn, print_argument, print_written}
 use Rattle.lift_ir.specs.Loads.{covers, all, held_scalars, IsHeld, AllHeld, AreLetsHeld, LoadsSuffice}
-use Rattle.lift_ir.specs.Forms.{Stands, StandsOverLaunch}
+use Rattle.lift_ir.specs.Forms.{Stands, StandsAlongRow, StandsOverLaunch}
 use Rattle.printed_form.specs.Means.{IsSpelled, IsCell, IsScalar, HasCells, Shows, AllShow}
 use Rattle.printed_form.proofs.Indices.{laid_cells}
 use Rattle.printed_form.proofs.Shown.{cells_side, all_within, all_push, turned_cells, HeldIn, held_push, loaded_held, loaded_is, loaded_shows, back_cells}
@@ -341,6 +341,45 @@ module _ (l : Launch) (item : ℕ) {A : Type 0} (num : A → ℕ) (spell : A →
           )
       written_is _ ts depth g views env h a n ty v w rest d ok nm sd es gs r cells = absurd sd
 
+    along_is : (t : Term A) (ts : List ℕ) (depth : ℕ) (g : ℕ → Ty) (views : ℕ → View) (env : ℕ → Marks) (h : ℕ → List Bool → Bool) (a n : ℕ) (ty : Ty) (v : View) (w : Marks) (rest : Code) → length ts ≡ depth → HasType num src g t ty → LoadsSuffice h t → StandsAlongRow t → AllShow l item ts g views env → AllShow l item ts src sins ins → HeldIn l item g env h → HasCells l item ts ty v w
+        → IsAlongRow l item ins num ts env a n t w (print_written spell sins depth views a n t v rest) rest
+    along_is (Reshape y t) ts depth g views env h a n ty v w rest d ok nm sd es gs r cells =
+        (sd.0, along_is t ts depth g views env h a n ok.0 (λ cs is. v cs (result_indices spell y is)) (λ cs q. w cs (result_position num y q)) rest d ok.1 nm sd.1 es gs r (back_cells l item num spell spelled ts y ok.0 ty v w sd.0 ok.2 ok.3 ok.4 cells))
+    along_is (Map Global z0 loads xs b) ts depth g views env h a n ty v w rest d ok nm sd es gs r cells =
+        let len = num z0 in
+        let e = argument_view private_arrays spell sins views a xs in
+        let f = argument_marks l ins num env a xs in
+        let n1 = n + variable_count xs in
+        let x = loaded_view loads (view_at (LoopVariable depth) e) n1 in
+        let views2 = push x views in
+        let inner = print_written spell sins (suc depth) views2 (a + private_count xs) (n1 + load_count loads) b (view_at (LoopVariable depth) v) End in
+        let body = print_loaded loads (view_at (LoopVariable depth) e) n1 inner in
+        let loop = Loops (start_of Global) (spell z0) (stride_of Global) body rest in
+        let p = gathered_is xs ts depth g views env h a n (ArrayOf len ok.0) loop d ok.4 nm.0 sd.0 es gs r in
+        let cells2 = subst (λ z. HasCells l item ts z v w) ok.6 cells in (
+          loop,
+          p,
+          (
+            spell z0,
+            body,
+            refl,
+            (spelled z0 ok.2).0,
+            λ i lt own.
+                let ts2 = ts ++ i ∷ [] in
+                let y = loaded_marks loads (at_index i f) n1 in
+                let c = turned_cells l item ts depth i len ok.0 e f d lt ok.2 (shown xs ts g views env h a (ArrayOf len ok.0) ok.4 nm.0 sd.0 es gs) in
+                let d2 : length ts2 ≡ suc depth = (let z = length-append ts (i ∷ []) in omega arith) in
+                let es2 = all_push l item ts2 ok.0 x y g views env (loaded_shows l item ins ts2 loads ok.0 (view_at (LoopVariable depth) e) (at_index i f) n1 ok.3 c) (all_within l item ts i g views env es) in
+                let r2 = held_push l item ok.0 y (covers loads) g env h (λ cs z q. loaded_held l item loads (at_index i f) n1 cs q) r in (
+                  inner,
+                  loaded_is l item ins ts2 loads ok.0 (view_at (LoopVariable depth) e) (at_index i f) n1 inner ok.3 c,
+                  written_is b ts2 (suc depth) (push ok.0 g) views2 (push y env) (push (covers loads) h) (a + private_count xs) (n1 + load_count loads) ok.1 (view_at (LoopVariable depth) v) (at_index i w) End d2 ok.5 nm.1 sd.1 es2 (all_within l item ts i src sins ins gs) r2
+                      (turned_cells l item ts depth i len ok.1 v w d lt ok.2 cells2),
+                ),
+          ),
+        )
+    along_is _ ts depth g views env h a n ty v w rest d ok nm sd es gs r cells = absurd sd
+
     pub over_launch_is : (t : Term A) (g : ℕ → Ty) (views : ℕ → View) (env : ℕ → Marks) (h : ℕ → List Bool → Bool) (a n : ℕ) (ty : Ty) (v : View) (w : Marks) (rest : Code) → HasType num src g t ty → LoadsSuffice h t → StandsOverLaunch t → AllShow l item [] g views env → AllShow l item [] src sins ins → HeldIn l item g env h → HasCells l item [] ty v w
         → IsOverLaunch l item ins num env a n t w (print_written spell sins 0 views a n t v rest) rest
     over_launch_is (Reshape y t) g views env h a n ty v w rest ok nm sd es gs r cells =
@@ -351,7 +390,8 @@ module _ (l : Launch) (item : ℕ) {A : Type 0} (num : A → ℕ) (spell : A →
         let next = print_written spell sins 0 (push e views) (a + private_count x) (n + variable_count x) b v rest in
         let p = gathered_is x [] 0 g views env h a n ok.0 next refl ok.1 nm.0 sd.0 es gs r in
         (next, p, over_launch_is b (push ok.0 g) (push e views) (push f env) (push (held_scalars h x) h) (a + private_count x) (n + variable_count x) ty v w rest ok.2 nm.1 sd.1 (all_push l item [] ok.0 e f g views env (shown x [] g views env h a ok.0 ok.1 nm.0 sd.0 es gs) es) gs (held_push l item ok.0 f (held_scalars h x) g env h (λ cs i z. kept_is private_arrays l item num src ins x g env h a ok.0 cs ok.1 i z r) r) cells)
-    over_launch_is (Map Global z0 loads xs b) g views env h a n ty v w rest ok nm sd es gs r cells =
+    over_launch_is (Map Global z0 loads xs b) g views env h a n ty v w rest ok nm sd es gs r cells = along_is (Map Global z0 loads xs b) [] 0 g views env h a n ty v w rest refl ok nm sd es gs r cells
+    over_launch_is (Map GlobalRows z0 loads xs b) g views env h a n ty v w rest ok nm sd es gs r cells =
         let len = num z0 in
         let e = argument_view private_arrays spell sins views a xs in
         let f = argument_marks l ins num env a xs in
@@ -360,7 +400,7 @@ module _ (l : Launch) (item : ℕ) {A : Type 0} (num : A → ℕ) (spell : A →
         let views2 = push x views in
         let inner = print_written spell sins 1 views2 (a + private_count xs) (n1 + load_count loads) b (view_at (LoopVariable 0) v) End in
         let body = print_loaded loads (view_at (LoopVariable 0) e) n1 inner in
-        let loop = Loops (start_of Global) (spell z0) (stride_of Global) body rest in
+        let loop = Loops (start_of GlobalRows) (spell z0) (stride_of GlobalRows) body rest in
         let p = gathered_is xs [] 0 g views env h a n (ArrayOf len ok.0) loop refl ok.4 nm.0 sd.0 es gs r in
         let cells2 = subst (λ z. HasCells l item [] z v w) ok.6 cells in (
           loop,
@@ -378,7 +418,7 @@ module _ (l : Launch) (item : ℕ) {A : Type 0} (num : A → ℕ) (spell : A →
                 let r2 = held_push l item ok.0 y (covers loads) g env h (λ cs z q. loaded_held l item loads (at_index i f) n1 cs q) r in (
                   inner,
                   loaded_is l item ins ts2 loads ok.0 (view_at (LoopVariable 0) e) (at_index i f) n1 inner ok.3 c,
-                  written_is b ts2 1 (push ok.0 g) views2 (push y env) (push (covers loads) h) (a + private_count xs) (n1 + load_count loads) ok.1 (view_at (LoopVariable 0) v) (at_index i w) End refl ok.5 nm.1 sd.1 es2 (all_within l item [] i src sins ins gs) r2
+                  along_is b ts2 1 (push ok.0 g) views2 (push y env) (push (covers loads) h) (a + private_count xs) (n1 + load_count loads) ok.1 (view_at (LoopVariable 0) v) (at_index i w) End refl ok.5 nm.1 sd.1 es2 (all_within l item [] i src sins ins gs) r2
                       (turned_cells l item [] 0 i len ok.1 v w refl lt ok.2 cells2),
                 ),
           ),

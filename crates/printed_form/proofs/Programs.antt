@@ -1,9 +1,10 @@
 -- Kernels printed for a program's typed term: they keep what they owe, they may be started, and the
 -- printer's kernel is one.
-use Rattle.std.proofs.Common.{◌≡◌, ℕ, zero, suc, ◌+◌, ◌*◌, ◌/◌, ◌%◌, ◌-◌, ◌<◌, ◌≤◌, ◌^◌, Bool, false, List, [], ◌∷◌, ◌++◌, length, get_or, Option, Some, None, refl, sym, ap, ◌∙◌, subst, pos, ◌≤ℤ◌, arith, length-append}
+use Rattle.std.proofs.Common.{◌≡◌, ℕ, zero, suc, ◌+◌, ◌*◌, ◌/◌, ◌%◌, ◌-◌, ◌<◌, ◌≤◌, Bool, true, false, ◌⊎◌, ⊎_elim, List, [], ◌∷◌, ◌++◌, length, get_or, Option, Some, None, refl, sym, ap, ◌∙◌, subst, pos, ◌≤ℤ◌, arith, length-append}
 use Rattle.std.specs.Prelude.{map, replicate, slice_get, slice_index}
 use Rattle.std.proofs.Math.ListN.{get_or-append}
 use Rattle.std.proofs.Math.Seq.{get_or-append_right}
+use Rattle.std.proofs.Math.Nat.{mod-eq_of_lt, mul-le-mul_right}
 use Rattle.size_arith.specs.declared.names.Name.{Name}
 use Rattle.size_arith.specs.declared.poly.Monomial.{Monomial}
 use Rattle.size_arith.specs.Polynomial.{value_at}
@@ -22,12 +23,10 @@ use Rattle.lift_tree.specs.Launches as launches
 use Rattle.lift_tree.specs.Launches.{Asks, IsAdmissibleLaunch, IsFixedSize, buffers_of}
 use Rattle.lift_tree.proofs.Members.{length-map}
 use Rattle.kernel_tree.specs.Code.{Code, Kernel}
-use Rattle.kernel_tree.specs.Grammar.{largest_group}
 use Rattle.kernel_tree.specs.Launch as kernel_launch
 use Rattle.kernel_tree.specs.Launch.{Launch, Cells, IsWhole, HasLocal, MayStart}
 use Rattle.kernel_tree.specs.Device.{State, IsStart, row, device_of}
 use Rattle.kernel_tree.specs.Alike.{GoesAlike}
-use Rattle.kernel_tree.proofs.Grouping.{flat_items}
 use Rattle.lift_ir.specs.Types.{Ty, Scalar, ArrayOf, IsPosition, IsPlaced, component, flat, width, size, measured, IsFlat}
 use Rattle.lift_ir.specs.Terms.{HasType, no_type}
 use Rattle.lift_ir.specs.Scalars.{Scalars, HasScalars, scalars_in, scalars_of, no_scalars, lists_of}
@@ -44,7 +43,7 @@ use Rattle.lift_ir.proofs.Values.{shape_is, has_scalars, same_lists}
 use Rattle.printed_form.specs.Headline.{EveryRunKeeps}
 use Rattle.printed_form.specs.Whole.{IsCode, IsMadeFor, IsPrinted}
 use Rattle.printed_form.specs.Printer.{input_marks, kernel_code}
-use Rattle.printed_form.specs.Programs.{input_shape, first_buffer, buffer_count, lowered_root, cell_owner, row_of, IsLaunchOf, SameContents, DeclaresFor, declared_kernel, PrintedProgramsKeep, PrintedProgramsStart, ProgramsArePrinted, PrintedProgramsGoAlike, Prints, AreBuffersOf, IsLowerableProgram}
+use Rattle.printed_form.specs.Programs.{input_shape, first_buffer, buffer_count, lowered_root, cell_owner, IsLaunchOf, SameContents, DeclaresFor, declared_kernel, PrintedProgramsKeep, PrintedProgramsStart, ProgramsArePrinted, PrintedProgramsGoAlike, Prints, AreBuffersOf, IsLowerableProgram}
 use Rattle.printed_form.proofs.Printed.{code_is}
 use Rattle.printed_form.proofs.Whole.{completed}
 use Rattle.printed_form.proofs.SameRuns.{codes_alike, nothing_to_meet}
@@ -131,21 +130,33 @@ buffers_count ys (b ∷ tys) (v ∷ vs) all h =
 
 -- launches
 
-pub whole : (l : Launch) (asks : Asks) (names : List Name) (bases : List ℕ) → kernel_launch.IsFlat l → IsAdmissibleLaunch names asks bases l.global.0 l.local.0 → IsWhole l
-whole l asks names bases flat h =
-    let a = h.local_least in
-    let b = h.divides in
-    let c = flat.one_local_row in
-    record {
-      x = record { positive = omega arith; divides = parts l.global.0 l.local.0 b (omega arith) };
-      y = record { positive = omega arith; divides = one_group l.global.1 l.local.1 c };
-    }
+pub whole : (l : Launch) (asks : Asks) (names : List Name) (bases : List ℕ) → IsAdmissibleLaunch names asks bases l.global l.local → IsWhole l
+whole l asks names bases h = record {
+  x = record { positive = (let a = h.local_least.0 in omega arith); divides = parts l.global.0 l.local.0 h.divides.0 (let a = h.local_least.0 in omega arith) };
+  y = record { positive = (let a = h.local_least.1 in omega arith); divides = parts l.global.1 l.local.1 h.divides.1 (let a = h.local_least.1 in omega arith) };
+}
   where
-    one_group : (g n : ℕ) → n ≡ 1 → g ≡ g / n * n
-    one_group g n e = subst (λ m. g ≡ g / m * m) (sym e) (let z : g ≡ g / 1 * 1 = omega arith in z)
-
     parts : (g n : ℕ) → g % n ≡ 0 → 0 < n → g ≡ g / n * n
     parts g n e h = omega arith
+
+-- some items
+pub some_items : (g h : ℕ) → 1 ≤ g → 1 ≤ h → 0 < g * h
+some_items g h a b = let c = mul-le-mul_right {m = 1} {n = g} h a in omega arith
+
+-- one row, where it is asked for or there is one item
+pub one_row : (l : Launch) (asks : Asks) (names : List Name) (bases : List ℕ) → IsAdmissibleLaunch names asks bases l.global l.local → (asks.alone ≡ true) ⊎ (asks.flat ≡ true) → kernel_launch.IsFlat l
+one_row l asks names bases h asked = record { one_row = rows; one_local_row = divisor l.global.1 l.local.1 rows h.local_least.1 h.divides.1 }
+  where
+    rows : l.global.1 ≡ 1
+    rows = ⊎_elim (λ e. second l.global.0 l.global.1 h.global_least.0 h.global_least.1 (h.alone e)) h.flat asked
+      where
+        second : (g k : ℕ) → 1 ≤ g → 1 ≤ k → g * k ≡ 1 → k ≡ 1
+        second g k a b e = let c = mul-le-mul_right {m = 1} {n = g} k a in omega arith
+
+    divisor : (g n : ℕ) → g ≡ 1 → 1 ≤ n → g % n ≡ 0 → n ≡ 1
+    divisor g zero e a h = absurd (omega arith)
+    divisor g (suc zero) e a h = refl
+    divisor g (suc (suc n)) e a h = let z : 1 % suc (suc n) ≡ 1 = mod-eq_of_lt {m = suc (suc n)} (omega arith) in let y = ap (λ k. k % suc (suc n)) e in absurd (omega (arith, z, y, h))
 
 pub sizes_count : (names : List Name) (ys : List ℕ) → Admissible names ys → length (sizes_at names ys) ≡ length names
 sizes_count [] ys h = refl
@@ -153,8 +164,8 @@ sizes_count (n ∷ names) [] h = absurd h
 sizes_count (n ∷ names) (y ∷ ys) h = let e = sizes_count names ys h.1 in omega arith
 
 -- lengths that are shown at least a number are so
-shown : (d : Declared) (asks : Asks) (bases : List ℕ) (l : Launch) → IsDeclared d → IsLaunchOf d asks bases l → (j : ℕ) (p : List Monomial) → ShownAtLeast j d.names p → pos j ≤ℤ value_at bases p
-shown d asks bases l declared launch j p s = shown_at_least d.names bases declared.names launch.admissible.sizes j p s
+shown : (d : Declared) (asks : Asks) (bases : List ℕ) (l : Launch) → IsDeclared d → Admissible d.names bases → (j : ℕ) (p : List Monomial) → ShownAtLeast j d.names p → pos j ≤ℤ value_at bases p
+shown d asks bases l declared sizes j p s = shown_at_least d.names bases declared.names sizes j p s
 
 abbrev sources_at : Declared → List ℕ → ℕ → Ty
 sources_at d bases v = measured (length_at bases) (input_shape d.inputs v)
@@ -163,9 +174,9 @@ source_is : (d : Declared) (bases : List ℕ) (i : ℕ) (a : PlainTy) → slice_
 source_is d bases i a e = ap (measured (length_at bases)) (shape_at d.inputs i a e) ∙ shape_is bases a
 
 -- what a program's typed term is lowered to has the type of the output
-pub lowered_has : (d : Declared) (asks : Asks) (bases : List ℕ) (t : Tree) (a : Annotation) (l : Launch) → IsLowerableProgram d bases t a → IsLaunchOf d asks bases l → HasType (length_at bases) (sources_at d bases) no_type (lowered_root d.names t a) (ty_at bases (type_in a))
+pub lowered_has : (d : Declared) (asks : Asks) (bases : List ℕ) (t : Tree) (a : Annotation) (l : Launch) → IsLowerableProgram d bases t a → IsLaunchOf d asks bases t a l → HasType (length_at bases) (sources_at d bases) no_type (lowered_root d.names t a) (ty_at bases (type_in a))
 lowered_has d asks bases t a l program launch =
-    has_is d bases (shown d asks bases l program.declared launch) program.declared.inputs (sources_at d bases) (λ i b e. sym (source_is d bases i b e)) t Written [] a tt program.nodes program.lowerable
+    has_is d bases (shown d asks bases l program.declared launch.admissible.sizes) program.declared.inputs (sources_at d bases) (λ i b e. sym (source_is d bases i b e)) t Written [] a tt program.nodes program.lowerable
 
 module _ (d : Declared) (w : World) (declared : IsDeclared d) (ok : IsAdmissible d w) (c : Cells) (held : c.ins ≡ buffers_of d.inputs w.inputs) where
   abbrev source : ℕ → Scalars
@@ -206,7 +217,7 @@ module _ (d : Declared) (w : World) (declared : IsDeclared d) (ok : IsAdmissible
           none cs (i ∷ q) p = let z = p.0 in absurd (omega arith)
 
 -- a program's printed kernel is one for its term in the intermediate representation
-module _ (d : Declared) (asks : Asks) (w : World) (t : Tree) (a : Annotation) (l : Launch) (c : Cells) (program : IsLowerableProgram d w.bases t a) (ok : IsAdmissible d w) (launch : IsLaunchOf d asks w.bases l) (buffers : AreBuffersOf d w t a c) where
+module _ (d : Declared) (asks : Asks) (w : World) (t : Tree) (a : Annotation) (l : Launch) (c : Cells) (program : IsLowerableProgram d w.bases t a) (ok : IsAdmissible d w) (launch : IsLaunchOf d asks w.bases t a l) (buffers : AreBuffersOf d w t a c) where
   abbrev num : List Monomial → ℕ
   num = length_at w.bases
 
@@ -244,10 +255,10 @@ module _ (d : Declared) (asks : Asks) (w : World) (t : Tree) (a : Annotation) (l
   -- the kernel is one for it, whatever its code
   pub made : (k : Kernel) → DeclaresFor d asks.local t a k → IsMadeFor l num src (input_marks num (first_buffer d.inputs) (input_shape d.inputs)) sources low result k c
   made k declares = record {
-    whole = whole l asks d.names w.bases launch.flat launch.admissible;
-    flat = launch.flat;
-    some = subst (λ n. 0 < n) (sym (flat_items l launch.flat)) (let z = launch.admissible.global_least in omega arith);
-    few = subst (λ n. n < 2 ^ 31) (sym (flat_items l launch.flat)) (let z = launch.admissible.global_most in omega arith);
+    whole = whole l asks d.names w.bases launch.admissible;
+    flat = λ e. one_row l asks d.names w.bases launch.admissible (launch.asked e);
+    some = some_items l.global.0 l.global.1 launch.admissible.global_least.0 launch.admissible.global_least.1;
+    few = let z = launch.admissible.global_most in omega arith;
     typed = has;
     flat_type = flat_type;
     variables = declares.variables;
@@ -268,24 +279,24 @@ module _ (d : Declared) (asks : Asks) (w : World) (t : Tree) (a : Annotation) (l
   programs_go_alike k m s r one two start begin same =
       let ins = input_marks num (first_buffer d.inputs) (input_shape d.inputs) in
       let full = completed num l src ins sources low result k c (is_printed k one) s start in
-      go_alike false k m l c (whole l asks d.names w.bases launch.flat launch.admissible) (one.declares.locals ∙ sym two.declares.locals) (one.declares.privates ∙ sym two.declares.privates)
+      go_alike false k m l c (whole l asks d.names w.bases launch.admissible) (one.declares.locals ∙ sym two.declares.locals) (one.declares.privates ∙ sym two.declares.privates)
       (codes_alike num l ins low result k.code m.code one.code two.code) s r start begin same full.0 full.1 (nothing_to_meet (device_of m l c) r)
 
 pub printed_programs_keep : PrintedProgramsKeep
 printed_programs_keep d asks w t a l k c program ok launch buffers printed = keeps d asks w t a l c program ok launch buffers k printed
 
--- groups of the size that is fixed are such a row
-pub has_local : (local : Option ℕ) (l : Launch) → kernel_launch.IsFlat l → IsFixedSize local l.local.0 → HasLocal (row_of local) l
-has_local None l flat h = tt
-has_local (Some size) l flat h = ap (λ x. (x, l.local.1)) h ∙ ap (λ y. (size, y)) flat.one_local_row
+-- groups are of the size that is fixed
+pub has_local : (local : Option (ℕ × ℕ)) (l : Launch) → IsFixedSize local l.local → HasLocal local l
+has_local None l h = tt
+has_local (Some size) l h = h
 
 -- a kernel that declares what the term needs may be started at each admissible launch
-pub may_start : (d : Declared) (asks : Asks) (w : World) (t : Tree) (a : Annotation) (l : Launch) (k : Kernel) (c : Cells) → IsLowerableProgram d w.bases t a → IsAdmissible d w → IsLaunchOf d asks w.bases l → AreBuffersOf d w t a c → DeclaresFor d asks.local t a k → MayStart k l c
+pub may_start : (d : Declared) (asks : Asks) (w : World) (t : Tree) (a : Annotation) (l : Launch) (k : Kernel) (c : Cells) → IsLowerableProgram d w.bases t a → IsAdmissible d w → IsLaunchOf d asks w.bases t a l → AreBuffersOf d w t a c → DeclaresFor d asks.local t a k → MayStart k l c
 may_start d asks w t a l k c program ok launch buffers declares = record {
-  whole = whole l asks d.names w.bases launch.flat launch.admissible;
-  small_groups = subst (λ n. l.local.0 * n ≤ largest_group) (sym launch.flat.one_local_row) (let z = launch.admissible.local_most in omega arith);
-  few_items = subst (λ n. n ≤ 65536) (sym (flat_items l launch.flat)) launch.admissible.global_most;
-  local = subst (λ size. HasLocal size l) (sym declares.local) (has_local asks.local l launch.flat launch.admissible.fixed);
+  whole = whole l asks d.names w.bases launch.admissible;
+  small_groups = launch.admissible.local_most;
+  few_items = launch.admissible.global_most;
+  local = subst (λ size. HasLocal size l) (sym declares.local) (has_local asks.local l launch.admissible.fixed);
   sizes = ap length launch.sizes ∙ sizes_count d.names w.bases launch.admissible.sizes ∙ sym declares.sizes;
   ins = ap length buffers.inputs ∙ buffers_count w.bases d.inputs w.inputs program.declared.arrays ok.inputs ∙ sym declares.inputs;
   outs = sym (length-map length c.outs) ∙ ap length buffers.outputs ∙ length-map length (launches.lists_of (type_in a) (meaning w [] t)) ∙ lists_length w.bases (type_in a) (meaning w [] t) ∙ sym declares.outputs;
@@ -295,11 +306,11 @@ pub printed_programs_start : PrintedProgramsStart
 printed_programs_start d asks w t a l k c program ok launch buffers printed = may_start d asks w t a l k c program ok launch buffers printed.declares
 
 -- a kernel that is made so declares what the term needs
-pub declares_so : (d : Declared) (size : Option ℕ) (t : Tree) (a : Annotation) (code : Code) → DeclaresFor d size t a (declared_kernel d size t a code)
+pub declares_so : (d : Declared) (size : Option (ℕ × ℕ)) (t : Tree) (a : Annotation) (code : Code) → DeclaresFor d size t a (declared_kernel d size t a code)
 declares_so d size t a code = record { inputs = refl; outputs = refl; sizes = refl; locals = refl; privates = refl; variables = refl; vectors = refl; local = refl }
 
 -- and so does a kernel with another code
-pub declares_too : (d : Declared) (size : Option ℕ) (t : Tree) (a : Annotation) (k : Kernel) (code : Code) → DeclaresFor d size t a k → DeclaresFor d size t a (record k { code = code })
+pub declares_too : (d : Declared) (size : Option (ℕ × ℕ)) (t : Tree) (a : Annotation) (k : Kernel) (code : Code) → DeclaresFor d size t a k → DeclaresFor d size t a (record k { code = code })
 declares_too d size t a k code h = record { inputs = h.inputs; outputs = h.outputs; sizes = h.sizes; locals = h.locals; privates = h.privates; variables = h.variables; vectors = h.vectors; local = h.local }
 
 pub inputs_placed : (bases : List ℕ) (tys : List PlainTy) → Every (λ b. IsPlaced (length_at bases) (shape_of b)) tys → (v : ℕ) → IsPlaced (length_at bases) (input_shape tys v)

@@ -6,7 +6,7 @@ use Rattle.kernel_tree.specs.Code.{Private, Code, then_rest}
 use Rattle.kernel_tree.specs.Launch.{Launch}
 use Rattle.lift_ir.specs.Types.{Ty, Scalar, PairOf, ArrayOf, width}
 use Rattle.lift_ir.specs.Layouts.{result_position}
-use Rattle.lift_ir.specs.Terms.{LoadSet, Skip, Take, Each, Global, WorkGroup, Local, Sequential, LocalMemory, PrivateMemory, Term, Literal, Bound, Source, Apply, ApplyNumber, Select, Both, Project, Reshape, LetArray, LetElement, Map, Fold, Store, Copy, push}
+use Rattle.lift_ir.specs.Terms.{LoadSet, Skip, Take, Each, Global, WorkGroup, Local, Sequential, GlobalRows, WorkGroupRows, LocalRows, LocalMemory, PrivateMemory, Term, Literal, Bound, Source, Apply, ApplyNumber, Select, Both, Project, Reshape, LetArray, LetElement, Map, Fold, Store, Copy, push}
 use Rattle.lift_ir.specs.Scalars.{at_index}
 use Rattle.printed_form.specs.Counts.{let_variables, load_count, variable_count, private_count}
 use Rattle.printed_form.specs.Marks.{Marks, laid_in, held_marks}
@@ -114,6 +114,9 @@ module _ (more : Code) where
       written_on num ts env a n (Map Global len loads xs b) w code rest h = absurd h
       written_on num ts env a n (Map WorkGroup len loads xs b) w code rest h = absurd h
       written_on num ts env a n (Map Local len loads xs b) w code rest h = absurd h
+      written_on num ts env a n (Map GlobalRows len loads xs b) w code rest h = absurd h
+      written_on num ts env a n (Map WorkGroupRows len loads xs b) w code rest h = absurd h
+      written_on num ts env a n (Map LocalRows len loads xs b) w code rest h = absurd h
       written_on num ts env a n (Literal c) w code rest h = absurd h
       written_on num ts env a n (Bound v) w code rest h = absurd h
       written_on num ts env a n (Source s) w code rest h = absurd h

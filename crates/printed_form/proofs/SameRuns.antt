@@ -18,7 +18,7 @@ use Rattle.kernel_tree.specs.EveryRun.{Completes}
 use Rattle.kernel_tree.specs.Meets.{IsWaiting, MeetTogether}
 use Rattle.kernel_tree.proofs.Grouping.{first_of_group, first_in_launch, in_launch}
 use Rattle.lift_ir.specs.Types.{Ty}
-use Rattle.lift_ir.specs.Terms.{Global, Term, Reshape, LetArray, Map}
+use Rattle.lift_ir.specs.Terms.{Global, GlobalRows, Term, Reshape, LetArray, Map}
 use Rattle.printed_form.specs.Marks.{Marks}
 use Rattle.printed_form.specs.Form.{IsWritten}
 use Rattle.printed_form.specs.Whole.{no_marks, output_marks, IsOverLaunch, IsCode}
@@ -353,6 +353,7 @@ never_both : {A : Type 0} (num : A → ℕ) (l : Launch) (item : ℕ) (ins : ℕ
 never_both num l item ins (Reshape y t) ts env env2 p n p2 n2 w w2 a b c e x z = never_both num l item ins t ts env env2 p n p2 n2 _ _ a b c e x.1 z.1
 never_both num l item ins (LetArray v t) ts env env2 p n p2 n2 w w2 a b c e x z = never_both num l item ins t ts _ _ _ _ _ _ w w2 x.0 b z.0 e x.2 z.2
 never_both num l item ins (Map Global len loads xs t) ts env env2 p n p2 n2 w w2 a b c e x z = x
+never_both num l item ins (Map GlobalRows len loads xs t) ts env env2 p n p2 n2 w w2 a b c e x z = x
 never_both num l item ins _ ts env env2 p n p2 n2 w w2 a b c e x z = z
 
 pub codes_alike : {A : Type 0} (num : A → ℕ) (l : Launch) (ins : ℕ → Marks) (t : Term A) (ty : Ty) (a b : Code) → IsCode l ins num t ty a → IsCode l ins num t ty b → (item : ℕ) → item < item_count l → Alike false l item [] a b

@@ -1,72 +1,104 @@
 -- Every run of a printed kernel keeps the headline.
-use Rattle.std.proofs.Common.{◌≡◌, ℕ, ◌+◌, ◌-◌, ◌*◌, ◌/◌, ◌%◌, ◌<◌, ◌≤◌, ◌^◌, Bool, List, [], ◌∷◌, ◌++◌, length, suc, Option, Some, None, refl, sym, ap, ◌∙◌, subst, ⊎_elim, inl, arith}
+use Rattle.std.proofs.Common.{◌≡◌, ℕ, ◌+◌, ◌*◌, ◌/◌, ◌%◌, ◌<◌, ◌≤◌, ◌^◌, Bool, false, List, [], ◌∷◌, ◌++◌, length, suc, Option, Some, None, refl, sym, ap, ◌∙◌, subst, ⊎_elim, inl, inr, arith}
 use Rattle.std.specs.Prelude.{map, slice_index}
 use Rattle.std.proofs.lemmas.Bool.{cases_lt, and_parts}
-use Rattle.std.proofs.Math.Nat.{mul-div_cancel, mod-eq_of_lt}
+use Rattle.std.proofs.Math.Nat.{mul-div_cancel, mul-le-mul_right, mod-lt}
 use Rattle.kernel_tree.specs.declared.events.Event.{Event}
 use Rattle.kernel_tree.specs.Formula.{Formula, bound_value}
 use Rattle.kernel_tree.specs.Code.{Array, Input, Output, Local, Private, Code, End, Kernel}
-use Rattle.kernel_tree.specs.Launch.{Launch, Cells, item_count, ids_of}
-use Rattle.kernel_tree.specs.Item.{Item, item, next, Ends}
+use Rattle.kernel_tree.specs.Launch.{Launch, Cells, IsWhole, item_count, column_of, row_of, ids_of}
+use Rattle.kernel_tree.specs.Item.{Frame, Item, item, loop_variables, next, Ends}
 use Rattle.kernel_tree.specs.Device.{Device, Cell, same_cell, Memory, State, device_of, length_in, row, IsStart, IsRun, AllEnded}
 use Rattle.kernel_tree.specs.Deeds.{Deed, Goes, Every}
 use Rattle.kernel_tree.specs.Independent.{is_write, Owners, IsAllowed, Agrees, Independent, one_by_one, write_count, AsAllowed}
-use Rattle.kernel_tree.specs.Rounds.{variable_at, Counts}
+use Rattle.kernel_tree.specs.Rounds.{Loop, frame_of, Counts}
 use Rattle.kernel_tree.specs.EveryRun.{Completes}
 use Rattle.kernel_tree.proofs.Bound.{within_bound}
 use Rattle.kernel_tree.proofs.Confluence.{same_cell-true}
-use Rattle.kernel_tree.proofs.Grouping.{flat_items}
+use Rattle.kernel_tree.proofs.Grouping.{some_items, row_below}
 use Rattle.kernel_tree.proofs.Independent.{as_allowed}
 use Rattle.kernel_tree.proofs.Stride.{turns_of, turn_below, turn_past, turn_owner, owner_turn, owner_has}
 use Rattle.printed_form.specs.Headline.{output_cell, KeepsHeadline, EveryRunKeeps}
 use Rattle.lift_ir.specs.Types.{Ty, ArrayOf, IsPosition, width, size, component, flat, unflat}
-use Rattle.lift_ir.specs.Terms.{LoadSet, Global, Term, LetArray, Reshape, Map, push, HasType, no_type}
+use Rattle.lift_ir.specs.Terms.{LoadSet, LoadsScalars, Global, GlobalRows, Term, LetArray, Reshape, Map, push, HasType, no_type}
 use Rattle.lift_ir.specs.Layouts.{Layout, operand_position, Reshapes, result_position, IsInvertible}
 use Rattle.lift_ir.specs.Scalars.{Scalars, at_index, mapped, scalars_of, no_scalars, AreLists}
 use Rattle.printed_form.specs.Marks.{Mark, Nowhere, Register, Spot, Marks, loaded_marks}
 use Rattle.printed_form.specs.Counts.{variable_count, private_count, load_count}
-use Rattle.printed_form.specs.Form.{argument_marks, IsWritten, Declares}
-use Rattle.printed_form.specs.Runs.{Setting, Known, Scratch, spot_cell, mark_cell, HoldsAt, AllHold, DueAt, Due, Wrote, known_after, Ran}
-use Rattle.lift_ir.specs.Owner.{owner}
-use Rattle.printed_form.specs.Whole.{IsOverLaunch, no_marks, output_marks, IsGiven, IsPrinted}
+use Rattle.printed_form.specs.Form.{argument_marks, IsLoop, IsLoaded, IsWritten, Declares}
+use Rattle.printed_form.specs.Runs.{Setting, Known, Scratch, spot_cell, mark_cell, HoldsAt, Holds, AllHold, DueAt, Due, Wrote, known_after, Ran, Apart}
+use Rattle.lift_ir.specs.Owner.{column_owner, row_owner, owner, is_in_rows}
+use Rattle.printed_form.specs.Whole.{IsAlongRow, IsOverLaunch, no_marks, output_marks, IsGiven, IsPrinted}
 use Rattle.lift_ir.proofs.Positions.{operand_in, result_in, result_operand}
-use Rattle.printed_form.proofs.Runs.{all_hold_later, ran_on}
+use Rattle.printed_form.proofs.Cells.{loads_run}
+use Rattle.printed_form.proofs.Runs.{later_on, holds_later, all_hold_later, ran_on, after_silence}
 use Rattle.printed_form.proofs.Elements.{all_hold_push}
-use Rattle.printed_form.proofs.Loops.{Rows, due_unscratched, rest_is}
+use Rattle.printed_form.proofs.Loops.{at, TurnRuns, looped, Rows, due_unscratched, rest_is}
 use Rattle.lift_ir.proofs.Numbers.{component_below, flat_below, component_same, flat_same, unflat_flat, position_at}
-use Rattle.lift_ir.proofs.Owner.{owner_below}
+use Rattle.lift_ir.proofs.Owner.{owner_below, owner_is, owner_column, owner_row}
 use Rattle.printed_form.proofs.Laid.{output_same}
 use Rattle.printed_form.proofs.Lengths.{declares, row_long}
 use Rattle.printed_form.proofs.Writes.{ran_as, ran_eq, scratch_then, loop_of, in_turn, map_run, gathers, writes}
 
 -- one item's part
 
-module _ {A : Type 0} (num : A → ℕ) (ins : ℕ → Marks) (src : ℕ → Ty) (sources : ℕ → Scalars) (st : Setting) (own : (p i : ℕ) → st.owners (spot_cell st (Private p) i) ≡ Some st.item) (here : st.item < st.device.launch.global.0) (few : st.device.launch.global.0 < 2 ^ 31) where
-  abbrev g : ℕ
-  g = st.device.launch.global.0
+module _ {A : Type 0} (num : A → ℕ) (ins : ℕ → Marks) (src : ℕ → Ty) (sources : ℕ → Scalars) (st : Setting) (own : (p i : ℕ) → st.owners (spot_cell st (Private p) i) ≡ Some st.item) (here : st.item < item_count st.device.launch) (whole : IsWhole st.device.launch) (few : item_count st.device.launch < 2 ^ 31) where
+  abbrev l : Launch
+  l = st.device.launch
 
-  -- the item's own scalars
-  abbrev pub OwnTargets : Term A → Ty → Marks → Scalars → Cell → ℕ → Type 0
-  OwnTargets t ty w s c v = (cs : List Bool) × (q : List ℕ) × IsPosition ty cs q × (owner num st.device.launch t q ≡ st.item) × (c ≡ mark_cell st (w cs q)) × (v ≡ s cs q)
+  -- so many items in a row, and rows; and the item's column and row
+  abbrev across : ℕ
+  across = l.global.0
 
-  -- the item is to write its own scalars
-  pub record DueOwn (a : ℕ) (t : Term A) (ty : Ty) (w : Marks) : Type 0 where
-    pub at : (cs : List Bool) (q : List ℕ) → IsPosition ty cs q → owner num st.device.launch t q ≡ st.item → DueAt st a (w cs q)
-    pub choices : (cs ds : List Bool) (q p : List ℕ) → IsPosition ty cs q → IsPosition ty ds p → mark_cell st (w cs q) ≡ mark_cell st (w ds p) → cs ≡ ds
-    pub places : (cs ds : List Bool) (q p : List ℕ) → IsPosition ty cs q → IsPosition ty ds p → mark_cell st (w cs q) ≡ mark_cell st (w ds p) → q ≡ p
+  abbrev down : ℕ
+  down = l.global.1
 
-  abbrev FillsOwn : (x : Known) → (code rest : Code) → Term A → (ty : Ty) → Marks → Scalars → Type 0
-  FillsOwn x code rest t ty w s = Ran st x [] code rest (x.count + variable_count t) (x.arrays + private_count t) (Scratch x.arrays (x.arrays + private_count t)) (OwnTargets t ty w s) (λ y. Unit {0})
+  abbrev column : ℕ
+  column = column_of l st.item
 
-  own_unscratched : (b a : ℕ) (t : Term A) (ty : Ty) (w : Marks) (s : Scalars) → DueOwn a t ty w → (c : Cell) (v : ℕ) → OwnTargets t ty w s c v → Scratch b a c → ⊥
-  own_unscratched b a t ty w s due c v z h = due_unscratched st (λ u. u) ty w s b a (w z.0 z.1) (due.at z.0 z.1 z.2 z.3) (subst (Scratch b a) z.4 h)
+  abbrev line : ℕ
+  line = row_of l st.item
 
-  own_due_at : (a b : ℕ) (t : Term A) (ty : Ty) (w : Marks) → a ≡ b → DueOwn a t ty w → DueOwn b t ty w
-  own_due_at a b t ty w e h = subst (λ z. DueOwn z t ty w) e h
+  column_in : column < across
+  column_in = mod-lt st.item (some_items l whole st.item here)
 
-  own_due_back : (y : Layout A) (t : Term A) (u ty : Ty) (w : Marks) (a : ℕ) → IsInvertible y → Reshapes num y u ty → DueOwn a (Reshape y t) ty w → DueOwn a t u (λ cs q. w cs (result_position num y q))
-  own_due_back y t u ty w a turn rel due = record {
-    at = λ cs q i o. let b = result_in num y u ty cs q turn rel i in due.at cs (result_position num y q) b.0 (ap (owner num st.device.launch t) b.1 ∙ o);
+  line_in : line < down
+  line_in = row_below l whole st.item here
+
+  few_across : across < 2 ^ 31
+  few_across =
+      let some : 0 < down = (let z = line_in in omega arith) in
+      let more : 1 * across ≤ down * across = mul-le-mul_right across (let le : 1 ≤ down = omega arith in le) in
+      omega arith
+
+  few_down : down < 2 ^ 31
+  few_down =
+      let some : 0 < across = (let z = column_in in omega arith) in
+      let more : 1 * down ≤ across * down = mul-le-mul_right down (let le : 1 ≤ across = omega arith in le) in
+      omega arith
+
+  -- those of a value's scalars of whose positions this holds
+  abbrev PartTargets : (List ℕ → Type 0) → Ty → Marks → Scalars → Cell → ℕ → Type 0
+  PartTargets P ty w s c v = (cs : List Bool) × (q : List ℕ) × IsPosition ty cs q × P q × (c ≡ mark_cell st (w cs q)) × (v ≡ s cs q)
+
+  -- the item is to write these
+  record DuePart (P : List ℕ → Type 0) (a : ℕ) (ty : Ty) (w : Marks) : Type 0 where
+    at : (cs : List Bool) (q : List ℕ) → IsPosition ty cs q → P q → DueAt st a (w cs q)
+    choices : (cs ds : List Bool) (q p : List ℕ) → IsPosition ty cs q → IsPosition ty ds p → mark_cell st (w cs q) ≡ mark_cell st (w ds p) → cs ≡ ds
+    places : (cs ds : List Bool) (q p : List ℕ) → IsPosition ty cs q → IsPosition ty ds p → mark_cell st (w cs q) ≡ mark_cell st (w ds p) → q ≡ p
+
+  abbrev FillsPart : (P : List ℕ → Type 0) → (x : Known) → List Frame → (code rest : Code) → Term A → (ty : Ty) → Marks → Scalars → Type 0
+  FillsPart P x fs code rest t ty w s = Ran st x fs code rest (x.count + variable_count t) (x.arrays + private_count t) (Scratch x.arrays (x.arrays + private_count t)) (PartTargets P ty w s) (λ y. Unit {0})
+
+  part_unscratched : (P : List ℕ → Type 0) (b a : ℕ) (ty : Ty) (w : Marks) (s : Scalars) → DuePart P a ty w → (c : Cell) (v : ℕ) → PartTargets P ty w s c v → Scratch b a c → ⊥
+  part_unscratched P b a ty w s due c v z h = due_unscratched st (λ u. u) ty w s b a (w z.0 z.1) (due.at z.0 z.1 z.2 z.3) (subst (Scratch b a) z.4 h)
+
+  part_at : (P : List ℕ → Type 0) (a b : ℕ) (ty : Ty) (w : Marks) → a ≡ b → DuePart P a ty w → DuePart P b ty w
+  part_at P a b ty w e h = subst (λ z. DuePart P z ty w) e h
+
+  part_back : (P : List ℕ → Type 0) (y : Layout A) (u ty : Ty) (w : Marks) (a : ℕ) → IsInvertible y → Reshapes num y u ty → DuePart (λ q. P (operand_position num y q)) a ty w → DuePart P a u (λ cs q. w cs (result_position num y q))
+  part_back P y u ty w a turn rel due = record {
+    at = λ cs q i o. let b = result_in num y u ty cs q turn rel i in due.at cs (result_position num y q) b.0 (subst P (sym b.1) o);
     choices = λ cs ds q p i j e. due.choices cs ds (result_position num y q) (result_position num y p) (result_in num y u ty cs q turn rel i).0 (result_in num y u ty ds p turn rel j).0 e;
     places = λ cs ds q p i j e.
         let b = result_in num y u ty cs q turn rel i in
@@ -74,95 +106,259 @@ module _ {A : Type 0} (num : A → ℕ) (ins : ℕ → Marks) (src : ℕ → Ty)
         sym b.1 ∙ ap (operand_position num y) (due.places cs ds (result_position num y q) (result_position num y p) b.0 c.0 e) ∙ c.1;
   }
 
-  own_due_row : (a : ℕ) (n : A) (i : ℕ) (loads : LoadSet) (xs b : Term A) (y : Ty) (w : Marks) → i < num n → i % g ≡ st.item → DueOwn a (Map Global n loads xs b) (ArrayOf (num n) y) w → Due st a y (at_index i w)
-  own_due_row a n i loads xs b y w lt o h = record {
+  -- seen through a layout
+  fills_back : (P : List ℕ → Type 0) (y : Layout A) (a : Term A) (u ty : Ty) (w : Marks) (D : Scalars) (x : Known) (fs : List Frame) (code rest : Code) → IsInvertible y → Reshapes num y u ty → FillsPart P x fs code rest a u (λ cs q. w cs (result_position num y q)) D
+      → FillsPart (λ q. P (operand_position num y q)) x fs code rest (Reshape y a) ty w (λ cs q. D cs (operand_position num y q))
+  fills_back P y a u ty w D x fs code rest turn rel r =
+      ran_as st x fs code rest (x.count + variable_count a) (x.arrays + private_count a) (x.count + variable_count a) (x.arrays + private_count a) (λ k. Unit {0}) (omega arith) (omega arith) (λ m vars z. z) (λ c s. s)
+      (λ c v t. let b = result_in num y u ty t.0 t.1 turn rel t.2 in inl (t.0, result_position num y t.1, b.0, subst P (sym b.1) t.3, t.4, t.5 ∙ ap (D t.0) (sym b.1)))
+      (λ c v t. (t.0, operand_position num y t.1, operand_in num y u ty t.0 t.1 rel t.2, t.3, t.4 ∙ ap (λ q. mark_cell st (w t.0 q)) (sym (result_operand num y u ty t.0 t.1 turn rel t.2)), t.5)) r
+
+  -- the item's places of a row, and its rows
+  abbrev own_place : ℕ → ℕ
+  own_place t = column + t * across
+
+  abbrev own_line : ℕ → ℕ
+  own_line t = line + t * down
+
+  strides_differ : (first size t u : ℕ) → 0 < size → first + t * size ≡ first + u * size → t ≡ u
+  strides_differ first size t u pos e =
+      let z : t * size ≡ u * size = omega arith in
+      sym (mul-div_cancel t pos) ∙ ap (λ v. v / size) z ∙ mul-div_cancel u pos
+
+  glb_counts : (len : ℕ) (f : Formula) (body rest : Code) → len < 2 ^ 31 → bound_value l.sizes f ≡ Some len → Counts st.device st.item (loop_of st num ins src sources own Global f body rest) (turns_of len across column)
+  glb_counts len f body rest small h = record {
+    bound = len;
+    bound_is = h;
+    below = λ t lt. turn_below len across column t column_in lt;
+    past = turn_past len across column column_in;
+    fits = λ t lt. let a = turn_below len across column t column_in lt in let b = few_across in omega arith;
+  }
+
+  rows_counts : (len : ℕ) (f : Formula) (body rest : Code) → len < 2 ^ 31 → bound_value l.sizes f ≡ Some len → Counts st.device st.item (loop_of st num ins src sources own GlobalRows f body rest) (turns_of len down line)
+  rows_counts len f body rest small h = record {
+    bound = len;
+    bound_is = h;
+    below = λ t lt. turn_below len down line t line_in lt;
+    past = turn_past len down line line_in;
+    fits = λ t lt. let a = turn_below len down line t line_in lt in let b = few_down in omega arith;
+  }
+
+  -- the scalars of the item's column
+  abbrev InColumn : Term A → List ℕ → Type 0
+  InColumn t q = column_owner num l t q ≡ column
+
+  due_place : (a : ℕ) (n : A) (i : ℕ) (loads : LoadSet) (xs b : Term A) (y : Ty) (w : Marks) → i < num n → i % across ≡ column → DuePart (InColumn (Map Global n loads xs b)) a (ArrayOf (num n) y) w → Due st a y (at_index i w)
+  due_place a n i loads xs b y w lt o h = record {
     at = λ cs q k. h.at cs (i ∷ q) (lt, k) o;
     choices = λ cs ds q p k j e. h.choices cs ds (i ∷ q) (i ∷ p) (lt, k) (lt, j) e;
     places = λ cs ds q p k j e. rest_is i i q p (h.places cs ds (i ∷ q) (i ∷ p) (lt, k) (lt, j) e);
   }
 
-  own_row : ℕ → ℕ
-  own_row t = st.item + t * g
-
-  -- in a row an item's number is its column
-  column : st.item % g ≡ st.item
-  column = mod-eq_of_lt here
-
-  glb_counts : (len : ℕ) (f : Formula) (body rest : Code) → len < 2 ^ 31 → bound_value st.device.launch.sizes f ≡ Some len → Counts st.device st.item (loop_of st num ins src sources own Global f body rest) (turns_of len g st.item)
-  glb_counts len f body rest small h = record {
-    bound = len;
-    bound_is = h;
-    below = λ t lt. subst (λ c. c + t * g < len) (sym column) (turn_below len g st.item t here lt);
-    past = subst (λ c. len ≤ c + turns_of len g st.item * g) (sym column) (turn_past len g st.item here);
-    fits = λ t lt. subst (λ c. c + suc t * g < 2 ^ 32) (sym column) (let a = turn_below len g st.item t here lt in omega arith);
-  }
-
-  rows_differ : (t u : ℕ) → own_row t ≡ own_row u → t ≡ u
-  unfolding own_row
-  rows_differ t u e =
-      let pos : 0 < g = omega arith in
-      sym (cancel t pos) ∙ ap (λ x. (x - st.item) / g) e ∙ cancel u pos
+  places_of : (n : A) (loads : LoadSet) (xs b : Term A) (y : Ty) (w : Marks) (s : Scalars) (c : Cell) (v : ℕ) → PartTargets (InColumn (Map Global n loads xs b)) (ArrayOf (num n) y) w s c v → Rows st own_place y w s (turns_of (num n) across column) c v
+  places_of n loads xs b y w s c v z = go z.0 z.1 z.2 z.3 z.4 z.5
     where
-      cancel : (t : ℕ) → 0 < g → (st.item + t * g - st.item) / g ≡ t
-      cancel t pos = let a : st.item + t * g - st.item ≡ t * g = omega arith in ap (λ x. x / g) a ∙ mul-div_cancel t pos
-
-  own_rows : (n : A) (loads : LoadSet) (xs b : Term A) (y : Ty) (w : Marks) (s : Scalars) (c : Cell) (v : ℕ) → OwnTargets (Map Global n loads xs b) (ArrayOf (num n) y) w s c v → Rows st own_row y w s (turns_of (num n) g st.item) c v
-  unfolding own_row
-  own_rows n loads xs b y w s c v z = go z.0 z.1 z.2 z.3 z.4 z.5
-    where
-      go : (cs : List Bool) (q : List ℕ) → IsPosition (ArrayOf (num n) y) cs q → owner num st.device.launch (Map Global n loads xs b) q ≡ st.item → c ≡ mark_cell st (w cs q) → v ≡ s cs q → Rows st (λ t. st.item + t * g) y w s (turns_of (num n) g st.item) c v
+      go : (cs : List Bool) (q : List ℕ) → IsPosition (ArrayOf (num n) y) cs q → column_owner num l (Map Global n loads xs b) q ≡ column → c ≡ mark_cell st (w cs q) → v ≡ s cs q → Rows st (λ t. column + t * across) y w s (turns_of (num n) across column) c v
       go cs [] i o e z = absurd i
       go cs (j ∷ q) i o e z =
-          let pos : 0 < g = omega arith in
-          let is : j ≡ st.item + j / g * g = owner_turn g j pos ∙ ap (λ x. x + j / g * g) o in
-          let lt : j / g < turns_of (num n) g st.item = subst (λ x. j / g < turns_of (num n) g x) o (owner_has (num n) g j pos i.0) in
-          (j / g, lt, (cs, q, i.1, e ∙ ap (λ x. mark_cell st (w cs (x ∷ q))) is, z ∙ ap (λ x. s cs (x ∷ q)) is))
+          let pos : 0 < across = (let z = column_in in omega arith) in
+          let is : j ≡ column + j / across * across = owner_turn across j pos ∙ ap (λ x. x + j / across * across) o in
+          let lt : j / across < turns_of (num n) across column = subst (λ x. j / across < turns_of (num n) across x) o (owner_has (num n) across j pos i.0) in
+          (j / across, lt, (cs, q, i.1, e ∙ ap (λ x. mark_cell st (w cs (x ∷ q))) is, z ∙ ap (λ x. s cs (x ∷ q)) is))
 
-  rows_own : (n : A) (loads : LoadSet) (xs b : Term A) (y : Ty) (w : Marks) (s : Scalars) (c : Cell) (v : ℕ) → Rows st own_row y w s (turns_of (num n) g st.item) c v → OwnTargets (Map Global n loads xs b) (ArrayOf (num n) y) w s c v
-  unfolding own_row
-  rows_own n loads xs b y w s c v r = let t = r.2 in (t.0, own_row r.0 ∷ t.1, (turn_below (num n) g st.item r.0 here r.1, t.2), turn_owner g st.item r.0 here, t.3, t.4)
+  of_places : (n : A) (loads : LoadSet) (xs b : Term A) (y : Ty) (w : Marks) (s : Scalars) (c : Cell) (v : ℕ) → Rows st own_place y w s (turns_of (num n) across column) c v → PartTargets (InColumn (Map Global n loads xs b)) (ArrayOf (num n) y) w s c v
+  of_places n loads xs b y w s c v r = let t = r.2 in (t.0, own_place r.0 ∷ t.1, (turn_below (num n) across column r.0 column_in r.1, t.2), turn_owner across column r.0 column_in, t.3, t.4)
 
-  row_is : (f : Formula) (body rest : Code) (t : ℕ) → variable_at st.device st.item (loop_of st num ins src sources own Global f body rest) t ≡ own_row t
-  unfolding own_row
-  row_is f body rest t = ap (λ c. c + t * g) column
+  -- a map along a row fills the scalars of the item's column
+  along : (t : Term A) (ts : List ℕ) (fs : List Frame) → loop_variables fs ≡ ts → (gt : ℕ → Ty) (env : ℕ → Marks) (sems : ℕ → Scalars) (ty : Ty) (w : Marks) (x : Known) (code rest : Code) → HasType num src gt t ty → IsAlongRow l st.item ins num ts env x.arrays x.count t w code rest
+      → x.count + variable_count t ≤ length x.vars.words → Declares st.device.lengths x.arrays t → DuePart (InColumn t) (x.arrays + private_count t) ty w → AllHold st x gt env sems → AllHold st x src ins sources → FillsPart (InColumn t) x fs code rest t ty w (scalars_of num sources sems t)
+  along (Reshape y a) ts fs at_ts gt env sems ty w x code rest ok h room long due es gs =
+      let r = along a ts fs at_ts gt env sems ok.0 (λ cs q. w cs (result_position num y q)) x code rest ok.1 h.1 room long (part_back (InColumn a) y ok.0 ty w (x.arrays + private_count a) h.0 ok.2 due) es gs in
+      fills_back (InColumn a) y a ok.0 ty w (scalars_of num sources sems a) x fs code rest h.0 ok.2 r
+  along (Map Global n loads xs b) ts fs at_ts gt env sems ty w x code rest ok h room long due es gs =
+      let len = num n in
+      let xt = ok.0 in
+      let yt = ok.1 in
+      let r = gathers st num ins src sources own xs ts fs at_ts gt env sems (ArrayOf len xt) x code h.0 ok.4 h.1 (omega arith) long.0 es gs in
+      let n1 = x.count + variable_count xs in
+      let a1 = x.arrays + private_count xs in
+      let y = known_after x r.deeds r.after n1 a1 in
+      let e = argument_marks l ins num env x.arrays xs in
+      let D = scalars_of num sources sems xs in
+      let s = mapped (λ z. scalars_of num sources (push z sems) b) D in
+      let count = turns_of len across column in
+      let room2 : x.count + variable_count xs + load_count loads + variable_count b ≤ length r.after.words = subst (λ q. x.count + variable_count xs + load_count loads + variable_count b ≤ q) (sym r.later.kept.long) (omega arith) in
+      let M = Map Global n loads xs b in
+      let due1 : DuePart (InColumn M) (x.arrays + (private_count xs + private_count b)) (ArrayOf len yt) w = subst (λ t. DuePart (InColumn M) (x.arrays + (private_count xs + private_count b)) t w) ok.6 due in
+      let a2 = a1 + private_count b in
+      let n2 = x.count + (variable_count xs + (load_count loads + variable_count b)) in
+      let due2 = part_at (InColumn M) (x.arrays + (private_count xs + private_count b)) a2 (ArrayOf len yt) w (omega arith) due1 in
+      let es2 = all_hold_later st x y gt env sems r.later es in
+      let gs2 = all_hold_later st x y src ins sources r.later gs in
+      let T = PartTargets (InColumn M) (ArrayOf len yt) w s in
+      let some : 0 < across = (let z = column_in in omega arith) in
+      let r2 = map_run st num ins src sources own Global own_place count len loads b ts fs gt env sems xt yt e w D y h.0 rest n2 a2 at_ts (λ f body q. glb_counts len f body rest ok.2 q) (λ f body t. refl) (λ t lt. turn_below len across column t column_in lt) (λ t u q. strides_differ column across t u some q) ok.3 due2.places
+      (λ t lt. due_place a2 n (own_place t) loads xs b yt w (turn_below len across column t column_in lt) (turn_owner across column t column_in) due2) h.2 room2 r.good es2 gs2
+      (λ i lt m vars fs2 inner at2 h2 room3 due3 es3 gs3. writes st num ins src sources own b (ts ++ i ∷ []) fs2 at2 (push xt gt) (push (loaded_marks loads (at_index i e) n1) env) (push (at_index i D) sems) yt (at_index i w) (in_turn st num ins src sources own y loads m vars) inner End ok.5 h2 room3 long.1 due3 es3 gs3)
+      (omega arith) (omega arith) in
+      let r3 = ran_as st y fs h.0 rest n2 a2 n2 a2 (λ k. Unit {0}) (omega arith) (omega arith) (λ m vars z. z) (λ c q. q)
+      (λ c v q. inl (of_places n loads xs b yt w s c v q)) (λ c v q. places_of n loads xs b yt w s c v q) r2 in
+      let r4 = ran_on st x fs code h.0 rest n1 a1 n2 a2 (scratch_then st x.arrays a1 a2 T (omega arith) (omega arith) (part_unscratched (InColumn M) x.arrays a2 (ArrayOf len yt) w s due2)) r r3 in
+      subst (λ t. Ran st x fs code rest n2 (x.arrays + (private_count xs + private_count b)) (Scratch x.arrays (x.arrays + (private_count xs + private_count b))) (PartTargets (InColumn M) t w s) (λ k. Unit {0})) (sym ok.6)
+      (ran_eq st x fs code rest n2 a2 n2 (x.arrays + (private_count xs + private_count b)) x.arrays refl (omega arith) r4)
+  along _ ts fs at_ts gt env sems ty w x code rest ok h room long due es gs = absurd h
 
-  row_below : (len t : ℕ) → t < turns_of len g st.item → own_row t < len
-  unfolding own_row
-  row_below len t lt = turn_below len g st.item t here lt
+  -- the item's own scalars: of its column and its row
+  abbrev Own : Term A → List ℕ → Type 0
+  Own t q = (column_owner num l t q ≡ column) × (row_owner num l t q ≡ line)
 
-  row_mine : (t : ℕ) → own_row t % g ≡ st.item
-  unfolding own_row
-  row_mine t = turn_owner g st.item t here
+  -- rows of the launch, each filled along
 
-  tops : (t : Term A) (gt : ℕ → Ty) (env : ℕ → Marks) (sems : ℕ → Scalars) (ty : Ty) (w : Marks) (x : Known) (code rest : Code) → HasType num src gt t ty → IsOverLaunch st.device.launch st.item ins num env x.arrays x.count t w code rest
-      → x.count + variable_count t ≤ length x.vars.words → Declares st.device.lengths x.arrays t → DueOwn (x.arrays + private_count t) t ty w → AllHold st x gt env sems → AllHold st x src ins sources → FillsOwn x code rest t ty w (scalars_of num sources sems t)
-  tops (Reshape y a) gt env sems ty w x code rest ok h room long due es gs =
-      let u = ok.0 in
-      let w2 = λ (cs : List Bool) (q : List ℕ). w cs (result_position num y q) in
-      let D = scalars_of num sources sems a in
-      let r = tops a gt env sems u w2 x code rest ok.1 h.1 room long (own_due_back y a u ty w (x.arrays + private_count a) h.0 ok.2 due) es gs in
-      ran_as st x [] code rest (x.count + variable_count a) (x.arrays + private_count a) (x.count + variable_count a) (x.arrays + private_count a) (λ k. Unit {0}) (omega arith) (omega arith) (λ m vars z. z) (λ c s. s)
-      (λ c v t. let b = result_in num y u ty t.0 t.1 h.0 ok.2 t.2 in inl (t.0, result_position num y t.1, b.0, ap (owner num st.device.launch a) b.1 ∙ t.3, t.4, t.5 ∙ ap (D t.0) (sym b.1)))
-      (λ c v t. (t.0, operand_position num y t.1, operand_in num y u ty t.0 t.1 ok.2 t.2, t.3, t.4 ∙ ap (λ q. mark_cell st (w t.0 q)) (sym (result_operand num y u ty t.0 t.1 h.0 ok.2 t.2)), t.5)) r
-  tops (LetArray v b) gt env sems ty w x code rest ok h room long due es gs =
+  module _ (n : A) (loads : LoadSet) (xs b : Term A) (gt : ℕ → Ty) (env : ℕ → Marks) (sems : ℕ → Scalars) (xt yt : Ty) (e w : Marks) (D : Scalars) (x : Known) (rest : Code) (small : num n < 2 ^ 31) (suits : LoadsScalars loads xt) (typed : HasType num src (push xt gt) b yt) (long : Declares st.device.lengths x.arrays b)
+      (due : DuePart (Own (Map GlobalRows n loads xs b)) (x.arrays + private_count b) (ArrayOf (num n) yt) w) (room : x.count + load_count loads + variable_count b ≤ length x.vars.words) (holds : Holds st x (ArrayOf (num n) xt) e D) (es : AllHold st x gt env sems) (gs : AllHold st x src ins sources) where
+    abbrev row_values : Scalars
+    row_values = mapped (λ z. scalars_of num sources (push z sems) b) D
+
+    abbrev M : Term A
+    M = Map GlobalRows n loads xs b
+
+    abbrev count : ℕ
+    count = turns_of (num n) down line
+
+    abbrev last : ℕ
+    last = x.arrays + private_count b
+
+    line_below : (t : ℕ) → t < count → own_line t < num n
+    line_below t lt = turn_below (num n) down line t line_in lt
+
+    line_mine : (t : ℕ) → own_line t % down ≡ line
+    line_mine t = turn_owner down line t line_in
+
+    abbrev Line : ℕ → Cell → ℕ → Type 0
+    Line t = PartTargets (InColumn b) yt (at_index (own_line t) w) (at_index (own_line t) row_values)
+
+    abbrev Lines : ℕ → Cell → ℕ → Type 0
+    Lines t c v = (u : ℕ) × (u < t) × Line u c v
+
+    no_lines : (c : Cell) (v : ℕ) → Lines 0 c v → ⊥
+    no_lines c v h = let z = h.1 in omega arith
+
+    line_unscratched : (t : ℕ) → t < count → (c : Cell) (v : ℕ) → Line t c v → Scratch x.arrays last c → ⊥
+    line_unscratched t lt c v z h = part_unscratched (Own M) x.arrays last (ArrayOf (num n) yt) w row_values due c v (z.0, own_line t ∷ z.1, (line_below t lt, z.2), (z.3, line_mine t), z.4, z.5) h
+
+    first_is : (i j : ℕ) (q p : List ℕ) → i ∷ q ≡ j ∷ p → i ≡ j
+    first_is i j q p r = ap head r
+      where
+        head : List ℕ → ℕ
+        head [] = i
+        head (m ∷ q) = m
+
+    lines_apart : (t : ℕ) → t < count → Apart (Scratch x.arrays last) (Lines t) (Scratch x.arrays last) (Line t) (Scratch x.arrays last) (Lines (suc t))
+    lines_apart t lt = record {
+      targets = λ c v u a b.
+          let g = a.2 in
+          let al : a.0 < count = (let z = a.1 in omega arith) in
+          let same = due.places g.0 b.0 (own_line a.0 ∷ g.1) (own_line t ∷ b.1) (line_below a.0 al, g.2) (line_below t lt, b.2) (sym g.4 ∙ b.4) in
+          let some : 0 < down = (let z = line_in in omega arith) in
+          never a.0 t a.1 (strides_differ line down a.0 t some (first_is (own_line a.0) (own_line t) g.1 b.1 same));
+      first_kept = λ c v a s. line_unscratched a.0 (let z = a.1 in omega arith) c v a.2 s;
+      second_free = λ c v b s. line_unscratched t lt c v b s;
+      scratch_first = λ c s. s;
+      scratch_second = λ c s. s;
+      target_first = λ c v a. (a.0, (let z = a.1 in omega arith), a.2);
+      target_second = λ c v b. (t, omega arith, b);
+      parts = λ c v a. ⊎_elim (λ low. inl (a.0, low, a.2)) (λ high. let z = a.1 in let q : a.0 ≡ t = omega arith in inr (subst (λ i. Line i c v) q a.2)) (cases_lt a.0 t);
+    }
+      where
+        never : (i j : ℕ) → i < j → i ≡ j → ⊥
+        never i j lt e = omega arith
+
+    due_line : (t : ℕ) → t < count → DuePart (InColumn b) last yt (at_index (own_line t) w)
+    due_line t lt = record {
+      at = λ cs q k o. due.at cs (own_line t ∷ q) (line_below t lt, k) (o, line_mine t);
+      choices = λ cs ds q p k j r. due.choices cs ds (own_line t ∷ q) (own_line t ∷ p) (line_below t lt, k) (line_below t lt, j) r;
+      places = λ cs ds q p k j r. rest_is (own_line t) (own_line t) q p (due.places cs ds (own_line t ∷ q) (own_line t ∷ p) (line_below t lt, k) (line_below t lt, j) r);
+    }
+
+    lines_run : (n2 a2 : ℕ) → x.count ≤ n2 → x.arrays ≤ a2 → (code : Code)
+        → IsLoop l st.item ins GlobalRows (num n)
+        (λ i body. (inner : Code) × IsLoaded l st.item ins ([] ++ i ∷ []) loads (at_index i e) x.count body inner
+        × IsAlongRow l st.item ins num ([] ++ i ∷ []) (push (loaded_marks loads (at_index i e) x.count) env) x.arrays (x.count + load_count loads) b (at_index i w) inner End)
+        code rest
+        → Ran st x [] code rest n2 a2 (Scratch x.arrays last) (Lines count) (λ y. Unit {0})
+    lines_run n2 a2 le le2 code h =
+        subst (λ c. Ran st x [] c rest n2 a2 (Scratch x.arrays last) (Lines count) (λ y. Unit {0})) (sym h.2)
+        (looped st [] p count counted x (Scratch x.arrays last) Lines Line (λ t m vars. Unit {0}) no_lines lines_apart (x.count + load_count loads + variable_count b) last tt turn n2 a2 le le2)
+      where
+        p : Loop
+        p = loop_of st num ins src sources own GlobalRows h.0 h.1 rest
+
+        counted : Counts st.device st.item (loop_of st num ins src sources own GlobalRows h.0 h.1 rest) count
+        counted = rows_counts (num n) h.0 h.1 rest small h.3
+
+        turn : TurnRuns st [] (loop_of st num ins src sources own GlobalRows h.0 h.1 rest) count (rows_counts (num n) h.0 h.1 rest small h.3) x (Scratch x.arrays last) Lines Line (λ t m vars. Unit {0}) no_lines lines_apart (x.count + load_count loads + variable_count b) last
+        turn t lt m vars later inv =
+            let i = own_line t in
+            let lt2 : i < num n = line_below t lt in
+            let z = at x m vars in
+            let fs2 = frame_of st.device st.item (loop_of st num ins src sources own GlobalRows h.0 h.1 rest) t ∷ [] in
+            let k = h.4 i lt2 (t, refl) in
+            let el : Holds st z xt (at_index i e) (at_index i D) = λ cs q a. holds_later st x z (ArrayOf (num n) xt) e D later holds cs (i ∷ q) (lt2, a) in
+            let long1 = subst (λ q. x.count + load_count loads + variable_count b ≤ q) (sym later.kept.long) room in
+            let r = loads_run st ([] ++ i ∷ []) fs2 refl ins loads xt (at_index i e) (at_index i D) z h.1 k.0 suits k.1 (omega arith) el in
+            let z2 = known_after z r.deeds r.after (x.count + load_count loads) x.arrays in
+            let later2 = later_on st x z z2 later r.later in
+            let long2 = subst (λ q. x.count + load_count loads + variable_count b ≤ q) (sym r.later.kept.long) long1 in
+            let es2 = all_hold_push st z2 xt (loaded_marks loads (at_index i e) x.count) (at_index i D) gt env sems r.good (all_hold_later st x z2 gt env sems later2 es) in
+            let r2 = along b ([] ++ i ∷ []) fs2 refl (push xt gt) (push (loaded_marks loads (at_index i e) x.count) env) (push (at_index i D) sems) yt (at_index i w) z2 k.0 End typed k.2 long2 long (due_line t lt) es2 (all_hold_later st x z2 src ins sources later2 gs) in
+            ran_on st z fs2 h.1 k.0 End (x.count + load_count loads) x.arrays (x.count + load_count loads + variable_count b) last after_silence r r2
+
+    lines_own : (c : Cell) (v : ℕ) → Lines count c v → PartTargets (Own M) (ArrayOf (num n) yt) w row_values c v
+    lines_own c v h = let z = h.2 in (z.0, own_line h.0 ∷ z.1, (line_below h.0 h.1, z.2), (z.3, line_mine h.0), z.4, z.5)
+
+    own_lines : (c : Cell) (v : ℕ) → PartTargets (Own M) (ArrayOf (num n) yt) w row_values c v → Lines count c v
+    own_lines c v z = go z.0 z.1 z.2 z.3 z.4 z.5
+      where
+        go : (cs : List Bool) (q : List ℕ) → IsPosition (ArrayOf (num n) yt) cs q → Own M q → c ≡ mark_cell st (w cs q) → v ≡ row_values cs q → Lines count c v
+        go cs [] i o r z = absurd i
+        go cs (j ∷ q) i o r z =
+            let pos : 0 < down = (let z = line_in in omega arith) in
+            let is : j ≡ line + j / down * down = owner_turn down j pos ∙ ap (λ y. y + j / down * down) o.1 in
+            let lt : j / down < count = subst (λ y. j / down < turns_of (num n) down y) o.1 (owner_has (num n) down j pos i.0) in
+            (j / down, lt, (cs, q, i.1, o.0, r ∙ ap (λ y. mark_cell st (w cs (y ∷ q))) is, z ∙ ap (λ y. row_values cs (y ∷ q)) is))
+
+  -- of a term whose launch is one row, or which has a map over rows on top
+  tops : (t : Term A) (gt : ℕ → Ty) (env : ℕ → Marks) (sems : ℕ → Scalars) (ty : Ty) (w : Marks) (x : Known) (code rest : Code) → (is_in_rows t ≡ false → line ≡ 0) → HasType num src gt t ty → IsOverLaunch l st.item ins num env x.arrays x.count t w code rest
+      → x.count + variable_count t ≤ length x.vars.words → Declares st.device.lengths x.arrays t → DuePart (Own t) (x.arrays + private_count t) ty w → AllHold st x gt env sems → AllHold st x src ins sources → FillsPart (Own t) x [] code rest t ty w (scalars_of num sources sems t)
+  tops (Reshape y a) gt env sems ty w x code rest first ok h room long due es gs =
+      let r = tops a gt env sems ok.0 (λ cs q. w cs (result_position num y q)) x code rest first ok.1 h.1 room long (part_back (Own a) y ok.0 ty w (x.arrays + private_count a) h.0 ok.2 due) es gs in
+      fills_back (Own a) y a ok.0 ty w (scalars_of num sources sems a) x [] code rest h.0 ok.2 r
+  tops (LetArray v b) gt env sems ty w x code rest first ok h room long due es gs =
       let r = gathers st num ins src sources own v [] [] refl gt env sems ok.0 x code h.0 ok.1 h.1 (omega arith) long.0 es gs in
       let y = known_after x r.deeds r.after (x.count + variable_count v) (x.arrays + private_count v) in
       let room2 : x.count + variable_count v + variable_count b ≤ length r.after.words = subst (λ q. x.count + variable_count v + variable_count b ≤ q) (sym r.later.kept.long) (omega arith) in
-      let e = argument_marks st.device.launch ins num env x.arrays v in
+      let e = argument_marks l ins num env x.arrays v in
       let D = scalars_of num sources sems v in
       let a2 = x.arrays + private_count v + private_count b in
       let n2 = x.count + variable_count v + variable_count b in
-      let due2 = own_due_at (x.arrays + (private_count v + private_count b)) a2 b ty w (omega arith) (let_due v b ty w (x.arrays + (private_count v + private_count b)) due) in
+      let due2 = part_at (Own b) (x.arrays + (private_count v + private_count b)) a2 ty w (omega arith) (record { at = due.at; choices = due.choices; places = due.places }) in
       let es2 = all_hold_push st y ok.0 e D gt env sems r.good (all_hold_later st x y gt env sems r.later es) in
       let s = scalars_of num sources (push D sems) b in
-      let T = OwnTargets b ty w s in
-      let r2 = tops b (push ok.0 gt) (push e env) (push D sems) ty w y h.0 rest ok.2 h.2 room2 long.1 due2 es2 (all_hold_later st x y src ins sources r.later gs) in
+      let T = PartTargets (Own b) ty w s in
+      let r2 = tops b (push ok.0 gt) (push e env) (push D sems) ty w y h.0 rest first ok.2 h.2 room2 long.1 due2 es2 (all_hold_later st x y src ins sources r.later gs) in
       ran_eq st x [] code rest n2 a2 (x.count + (variable_count v + variable_count b)) (x.arrays + (private_count v + private_count b)) x.arrays (omega arith) (omega arith)
-      (ran_on st x [] code h.0 rest (x.count + variable_count v) (x.arrays + private_count v) n2 a2 (scratch_then st x.arrays (x.arrays + private_count v) a2 T (omega arith) (omega arith) (own_unscratched x.arrays a2 b ty w s due2)) r r2)
+      (ran_on st x [] code h.0 rest (x.count + variable_count v) (x.arrays + private_count v) n2 a2 (scratch_then st x.arrays (x.arrays + private_count v) a2 T (omega arith) (omega arith) (part_unscratched (Own b) x.arrays a2 ty w s due2)) r r2)
+  tops (Map Global n loads xs b) gt env sems ty w x code rest first ok h room long due es gs =
+      let M = Map Global n loads xs b in
+      let zero_is : line ≡ 0 = first refl in
+      let column_due : DuePart (InColumn M) (x.arrays + private_count M) ty w = record { at = λ cs q k o. due.at cs q k (o, none q ∙ sym zero_is); choices = due.choices; places = due.places } in
+      let r = along M [] [] refl gt env sems ty w x code rest ok h room long column_due es gs in
+      ran_as st x [] code rest (x.count + variable_count M) (x.arrays + private_count M) (x.count + variable_count M) (x.arrays + private_count M) (λ k. Unit {0}) (omega arith) (omega arith) (λ m vars z. z) (λ c s. s)
+      (λ c v t. inl (t.0, t.1, t.2, (t.3, none t.1 ∙ sym zero_is), t.4, t.5)) (λ c v t. (t.0, t.1, t.2, t.3.0, t.4, t.5)) r
     where
-      let_due : (v b : Term A) (ty : Ty) (w : Marks) (a : ℕ) → DueOwn a (LetArray v b) ty w → DueOwn a b ty w
-      let_due v b ty w a d = record { at = d.at; choices = d.choices; places = d.places }
-  tops (Map Global n loads xs b) gt env sems ty w x code rest ok h room long due es gs =
+      none : (q : List ℕ) → row_owner num l (Map Global n loads xs b) q ≡ 0
+      none q = refl
+  tops (Map GlobalRows n loads xs b) gt env sems ty w x code rest first ok h room long due es gs =
       let len = num n in
       let xt = ok.0 in
       let yt = ok.1 in
@@ -170,29 +366,25 @@ module _ {A : Type 0} (num : A → ℕ) (ins : ℕ → Marks) (src : ℕ → Ty)
       let n1 = x.count + variable_count xs in
       let a1 = x.arrays + private_count xs in
       let y = known_after x r.deeds r.after n1 a1 in
-      let e = argument_marks st.device.launch ins num env x.arrays xs in
+      let e = argument_marks l ins num env x.arrays xs in
       let D = scalars_of num sources sems xs in
       let s = mapped (λ z. scalars_of num sources (push z sems) b) D in
-      let count = turns_of len g st.item in
       let room2 : x.count + variable_count xs + load_count loads + variable_count b ≤ length r.after.words = subst (λ q. x.count + variable_count xs + load_count loads + variable_count b ≤ q) (sym r.later.kept.long) (omega arith) in
-      let M = Map Global n loads xs b in
-      let due1 : DueOwn (x.arrays + (private_count xs + private_count b)) M (ArrayOf len yt) w = subst (λ t. DueOwn (x.arrays + (private_count xs + private_count b)) M t w) ok.6 due in
+      let M = Map GlobalRows n loads xs b in
+      let due1 : DuePart (Own M) (x.arrays + (private_count xs + private_count b)) (ArrayOf len yt) w = subst (λ t. DuePart (Own M) (x.arrays + (private_count xs + private_count b)) t w) ok.6 due in
       let a2 = a1 + private_count b in
       let n2 = x.count + (variable_count xs + (load_count loads + variable_count b)) in
-      let due2 = own_due_at (x.arrays + (private_count xs + private_count b)) a2 M (ArrayOf len yt) w (omega arith) due1 in
+      let due2 = part_at (Own M) (x.arrays + (private_count xs + private_count b)) a2 (ArrayOf len yt) w (omega arith) due1 in
       let es2 = all_hold_later st x y gt env sems r.later es in
       let gs2 = all_hold_later st x y src ins sources r.later gs in
-      let T = OwnTargets M (ArrayOf len yt) w s in
-      let r2 = map_run st num ins src sources own Global own_row count len loads b [] [] gt env sems xt yt e w D y h.0 rest n2 a2 refl (λ f body q. glb_counts len f body rest ok.2 q) (λ f body t. row_is f body rest t) (row_below len) rows_differ ok.3 due2.places
-      (λ t lt. own_due_row a2 n (own_row t) loads xs b yt w (row_below len t lt) (row_mine t) due2) h.2 room2 r.good es2 gs2
-      (λ i lt m vars fs2 inner at2 h2 room3 due3 es3 gs3. writes st num ins src sources own b ([] ++ i ∷ []) fs2 at2 (push xt gt) (push (loaded_marks loads (at_index i e) n1) env) (push (at_index i D) sems) yt (at_index i w) (in_turn st num ins src sources own y loads m vars) inner End ok.5 h2 room3 long.1 due3 es3 gs3)
-      (omega arith) (omega arith) in
+      let T = PartTargets (Own M) (ArrayOf len yt) w s in
+      let r2 = lines_run n loads xs b gt env sems xt yt e w D y rest ok.2 ok.3 ok.5 long.1 due2 room2 r.good es2 gs2 n2 a2 (omega arith) (omega arith) h.0 h.2 in
       let r3 = ran_as st y [] h.0 rest n2 a2 n2 a2 (λ k. Unit {0}) (omega arith) (omega arith) (λ m vars z. z) (λ c q. q)
-      (λ c v q. inl (rows_own n loads xs b yt w s c v q)) (λ c v q. own_rows n loads xs b yt w s c v q) r2 in
-      let r4 = ran_on st x [] code h.0 rest n1 a1 n2 a2 (scratch_then st x.arrays a1 a2 T (omega arith) (omega arith) (own_unscratched x.arrays a2 M (ArrayOf len yt) w s due2)) r r3 in
-      subst (λ t. Ran st x [] code rest n2 (x.arrays + (private_count xs + private_count b)) (Scratch x.arrays (x.arrays + (private_count xs + private_count b))) (OwnTargets M t w s) (λ k. Unit {0})) (sym ok.6)
+      (λ c v q. inl (lines_own n loads xs b gt env sems xt yt e w D y rest ok.2 ok.3 ok.5 long.1 due2 room2 r.good es2 gs2 c v q)) (λ c v q. own_lines n loads xs b gt env sems xt yt e w D y rest ok.2 ok.3 ok.5 long.1 due2 room2 r.good es2 gs2 c v q) r2 in
+      let r4 = ran_on st x [] code h.0 rest n1 a1 n2 a2 (scratch_then st x.arrays a1 a2 T (omega arith) (omega arith) (part_unscratched (Own M) x.arrays a2 (ArrayOf len yt) w s due2)) r r3 in
+      subst (λ t. Ran st x [] code rest n2 (x.arrays + (private_count xs + private_count b)) (Scratch x.arrays (x.arrays + (private_count xs + private_count b))) (PartTargets (Own M) t w s) (λ k. Unit {0})) (sym ok.6)
       (ran_eq st x [] code rest n2 a2 n2 (x.arrays + (private_count xs + private_count b)) x.arrays refl (omega arith) r4)
-  tops _ gt env sems ty w x code rest ok h room long due es gs = absurd h
+  tops _ gt env sems ty w x code rest first ok h room long due es gs = absurd h
 
 -- the launch
 
@@ -266,8 +458,12 @@ module _ {A : Type 0} (num : A → ℕ) (l : Launch) (src : ℕ → Ty) (ins : �
   abbrev Runs : ℕ → Type 0
   Runs j = Ran (setting j) (known j) [] k.code End (0 + variable_count t) (0 + private_count t) (Scratch 0 (0 + private_count t)) (Mine j) (λ y. Unit {0})
 
-  all_in_a_row : item_count l ≡ l.global.0
-  all_in_a_row = flat_items l h.made.flat
+  -- of a term with no map over rows on top all items lie in one row
+  first_line : (j : ℕ) → j < item_count l → is_in_rows t ≡ false → row_of l j ≡ 0
+  first_line j lt e = let z = subst (λ n. row_of l j < n) (h.made.flat e).one_row (row_below l h.made.whole j lt) in omega arith
+
+  owner_parts : (j : ℕ) → j < item_count l → (q : List ℕ) → owner num l t q ≡ j → (column_owner num l t q ≡ column_of l j) × (row_owner num l t q ≡ row_of l j)
+  owner_parts j lt q o = (owner_column num l t q j h.made.whole lt o, owner_row num l t q j h.made.whole lt o)
 
   item_runs : (j : ℕ) → j < item_count l → Runs j
   item_runs j lt =
@@ -279,8 +475,11 @@ module _ {A : Type 0} (num : A → ℕ) (l : Launch) (src : ℕ → Ty) (ins : �
       (λ b v u. inl (u.0, u.1, u.2, only u.1, u.3, u.4)) (λ b v u. (u.0, u.1, u.2, u.4, u.5))
       (writes (setting j) num ins src sources (own j) t [] [] refl no_type no_marks no_scalars ty (output_marks ty) (known j) k.code End h.made.typed (subst (λ i. IsWritten l i ins num [] no_marks 0 0 t (output_marks ty) k.code End) (let b = z.0 in omega arith) z.1) room declared
       (record { at = λ cs q w. due_at j cs q w (only q); choices = same_choices j; places = same_places j }) (nothing_bound j) (all_given j)))
-      (λ z. tops num ins src sources (setting j) (own j) (subst (λ n. j < n) all_in_a_row lt) (subst (λ n. n < 2 ^ 31) all_in_a_row h.made.few) t no_type no_marks no_scalars ty (output_marks ty) (known j) k.code End h.made.typed (z j lt) room declared
-      (record { at = λ cs q w o. due_at j cs q w o; choices = same_choices j; places = same_places j }) (nothing_bound j) (all_given j))
+      (λ z.
+      ran_as (setting j) (known j) [] k.code End (0 + variable_count t) (0 + private_count t) (0 + variable_count t) (0 + private_count t) (λ y. Unit {0}) (omega arith) (omega arith) (λ m vars u. u) (λ b u. u)
+      (λ b v u. inl (u.0, u.1, u.2, owner_is num l t u.1 j u.3.0 u.3.1, u.4, u.5)) (λ b v u. (u.0, u.1, u.2, owner_parts j lt u.1 u.3, u.4, u.5))
+      (tops num ins src sources (setting j) (own j) lt h.made.whole h.made.few t no_type no_marks no_scalars ty (output_marks ty) (known j) k.code End (first_line j lt) h.made.typed (z j lt) room declared
+      (record { at = λ cs q w o. due_at j cs q w (owner_is num l t q j o.0 o.1); choices = same_choices j; places = same_places j }) (nothing_bound j) (all_given j)))
       h.code
 
   -- an item's deeds and its end, whatever the number
@@ -346,8 +545,8 @@ module _ {A : Type 0} (num : A → ℕ) (l : Launch) (src : ℕ → Ty) (ins : �
       (λ ga. none (λ v m. let b = component_below ty m.0 m.1 m.2 in let e = output_same a (0 + component ty m.0) (ap Cell.array m.4) in absurd (omega arith)))
       (cases_lt a (width ty))
 
-  owner_is : (a i j : ℕ) (b : Cell) → b ≡ output_cell a i → owners b ≡ Some j → j ≡ owner_of i
-  owner_is a i j b e o = let p : Some (owner_of i) ≡ Some j = ap owners (sym e) ∙ o in cc
+  owner_named : (a i j : ℕ) (b : Cell) → b ≡ output_cell a i → owners b ≡ Some j → j ≡ owner_of i
+  owner_named a i j b e o = let p : Some (owner_of i) ≡ Some j = ap owners (sym e) ∙ o in cc
 
   module _ (lists : List (List ℕ)) (shape : map length lists ≡ map length c.outs) (listed : AreLists ty value lists) where
     in_range : (i : ℕ) → owner_of i < item_count l
@@ -382,7 +581,7 @@ module _ {A : Type 0} (num : A → ℕ) (l : Launch) (src : ℕ → Ty) (ins : �
       };
       by_owner = λ x among a i w.
           let parts = and_parts x.writes (same_cell x.cell (output_cell a i)) w in
-          owner_is a i x.item x.cell (same_cell-true x.cell (output_cell a i) parts.1) ((all.proper x (all.every.among es r x among)).writes parts.0);
+          owner_named a i x.item x.cell (same_cell-true x.cell (output_cell a i) parts.1) ((all.proper x (all.every.among es r x among)).writes parts.0);
     }
 
 pub every_run_keeps : {A : Type 0} (num : A → ℕ) (l : Launch) (src : ℕ → Ty) (ins : ℕ → Marks) (sources : ℕ → Scalars) (t : Term A) (ty : Ty) (k : Kernel) (c : Cells) (lists : List (List ℕ)) → IsPrinted l num src ins sources t ty k c → map length lists ≡ map length c.outs → AreLists ty (scalars_of num sources no_scalars t) lists

@@ -2,13 +2,13 @@
 -- given turns of the loops around it:
 -- any index expressions and bounds of the right values.
 use Rattle.std.specs.Prelude.{◌≡◌, ℕ, ◌+◌, ◌*◌, ◌<◌, Bool, true, false, List, [], ◌∷◌, ◌++◌, Option, Some}
-use Rattle.kernel_tree.specs.declared.tree.Dimension.TheVariants.{X}
+use Rattle.kernel_tree.specs.declared.tree.Dimension.TheVariants.{X, Y}
 use Rattle.kernel_tree.specs.Formula.{Formula, Vars, value, bound_value}
 use Rattle.kernel_tree.specs.Code.{Array, Private, Start, FromZero, FromGlobalId, FromGroupId, FromLocalId, Stride, ByOne, ByGlobalSize, ByGroupCount, ByLocalSize, start_value, stride_value, Code, End, Performs, Assigns, Loads, Stores, Loops}
 use Rattle.kernel_tree.specs.Launch.{Launch, ids_of}
 use Rattle.lift_ir.specs.Types.{Ty, Scalar, PairOf, ArrayOf, width, size}
 use Rattle.lift_ir.specs.Layouts.{result_position, IsInvertible}
-use Rattle.lift_ir.specs.Terms.{LoadSet, Skip, Take, Each, Kind, Global, WorkGroup, Local, Sequential, LocalMemory, PrivateMemory, Term, Literal, Bound, Source, Apply, ApplyNumber, Select, Both, Project, Reshape, LetArray, LetElement, Map, Fold, Store, Copy, push}
+use Rattle.lift_ir.specs.Terms.{LoadSet, Skip, Take, Each, Kind, Global, WorkGroup, Local, Sequential, GlobalRows, WorkGroupRows, LocalRows, LocalMemory, PrivateMemory, Term, Literal, Bound, Source, Apply, ApplyNumber, Select, Both, Project, Reshape, LetArray, LetElement, Map, Fold, Store, Copy, push}
 use Rattle.lift_ir.specs.Scalars.{at_index}
 use Rattle.printed_form.specs.Arguments.{private_arrays, marks_in}
 use Rattle.printed_form.specs.Counts.{let_variables, load_count, variable_count, private_count}
@@ -21,6 +21,9 @@ start_of Global = FromGlobalId X
 start_of WorkGroup = FromGroupId X
 start_of Local = FromLocalId X
 start_of Sequential = FromZero
+start_of GlobalRows = FromGlobalId Y
+start_of WorkGroupRows = FromGroupId Y
+start_of LocalRows = FromLocalId Y
 
 -- and how far they are from one another
 abbrev pub stride_of : Kind → Stride
@@ -28,6 +31,9 @@ stride_of Global = ByGlobalSize X
 stride_of WorkGroup = ByGroupCount X
 stride_of Local = ByLocalSize X
 stride_of Sequential = ByOne
+stride_of GlobalRows = ByGlobalSize Y
+stride_of WorkGroupRows = ByGroupCount Y
+stride_of LocalRows = ByLocalSize Y
 
 -- a turn that an item takes of a loop: from its start on, stride by stride
 abbrev pub IsTurn : Launch → (item : ℕ) → Start → Stride → ℕ → Type 0

@@ -31,7 +31,7 @@ IsSoundIn k spell high d t =
 -- many layouts stand one on another; element terms and loops don't nest too deep; groups may have
 -- the size that is fixed.
 pub record IsPrintedWithin (spell : List Monomial → Formula) (high most : ℕ) (d : Declared)
-    (local : Option ℕ) (t : Tree) (a : Annotation) : Type 0 where
+    (local : Option (ℕ × ℕ)) (t : Tree) (a : Annotation) : Type 0 where
   pub size : IsLocalSize local
   pub some : 1 ≤ high
   pub fits : high + (8 + 3 * most) ≤ 1024
@@ -47,7 +47,7 @@ pub record IsPrintedWithin (spell : List Monomial → Formula) (high most : ℕ)
 -- the kernel printed for such a term is of the grammar
 abbrev pub KernelsAreOfTheGrammar : Type 0
 KernelsAreOfTheGrammar =
-    (spell : List Monomial → Formula) (high most : ℕ) (d : Declared) (local : Option ℕ) (t : Tree)
+    (spell : List Monomial → Formula) (high most : ℕ) (d : Declared) (local : Option (ℕ × ℕ)) (t : Tree)
     (a : Annotation)
     → IsPrintedWithin spell high most d local t a
     → is_kernel (printed_kernel spell d local t a) ≡ true

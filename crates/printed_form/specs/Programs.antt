@@ -1,5 +1,5 @@
 -- A kernel printed for a whole program's typed term.
-use Rattle.std.specs.Prelude.{◌≡◌, ℕ, zero, suc, ◌+◌, ◌<◌, ◌^◌, ◌⊎◌, true, List, [], ◌∷◌, length, map, Option, Some, None}
+use Rattle.std.specs.Prelude.{◌≡◌, ℕ, zero, suc, ◌+◌, ◌<◌, ◌^◌, ◌⊎◌, true, false, List, [], ◌∷◌, length, map, Option}
 use Rattle.size_arith.specs.declared.names.Name.{Name}
 use Rattle.size_arith.specs.declared.poly.Monomial.{Monomial}
 use Rattle.size_arith.specs.Ranges.{sizes_at}
@@ -12,7 +12,7 @@ use Rattle.lift_tree.specs.Meaning.{World, meaning}
 use Rattle.lift_tree.specs.Launches.{Asks, IsAdmissibleLaunch, buffers_of, lists_of}
 use Rattle.kernel_tree.specs.Formula.{Formula}
 use Rattle.kernel_tree.specs.Code.{Code, Kernel}
-use Rattle.kernel_tree.specs.Launch.{Launch, Cells, IsFlat, MayStart, item_count}
+use Rattle.kernel_tree.specs.Launch.{Launch, Cells, MayStart, item_count}
 use Rattle.kernel_tree.specs.Device.{State, device_of, IsStart}
 use Rattle.kernel_tree.specs.Alike.{GoesAlike}
 use Rattle.lift_ir.specs.Types.{Shape, ArrayOf, Scalar, width, unflat, IsPlaced}
@@ -22,7 +22,7 @@ use Rattle.lift_ir.specs.Lowering.{Written, Lowered, lower}
 use Rattle.lift_ir.specs.Lowerable.{IsLowerable, IsStaged}
 use Rattle.lift_ir.specs.Forms.{Stands, StandsOverLaunch}
 use Rattle.printed_form.specs.Means.{IsSpelled}
-use Rattle.lift_ir.specs.Owner.{owner}
+use Rattle.lift_ir.specs.Owner.{owner, is_in_rows}
 use Rattle.printed_form.specs.Headline.{EveryRunKeeps}
 use Rattle.printed_form.specs.Counts.{variable_count, copy_lengths}
 use Rattle.printed_form.specs.Whole.{IsCode}
@@ -49,16 +49,11 @@ buffer_count (a ∷ tys) = width (shape_of a) + buffer_count tys
 abbrev pub lowered_root : List Name → Tree → Annotation → Lowered
 lowered_root names t a = lower names Written t a
 
--- groups of a fixed size are one row
-abbrev pub row_of : Option ℕ → Option (ℕ × ℕ)
-row_of None = None
-row_of (Some size) = Some (size, 1)
-
 -- The kernel declares what the typed term needs, whatever its code: a parameter for each component
 -- of each input, then of the output, then for each size; local and private arrays, and private
 -- variables, of which none has four words. And it asks for the size of groups that the script
 -- fixes.
-pub record DeclaresFor (d : Declared) (size : Option ℕ) (t : Tree) (a : Annotation)
+pub record DeclaresFor (d : Declared) (size : Option (ℕ × ℕ)) (t : Tree) (a : Annotation)
     (k : Kernel) : Type 0 where
   pub inputs : k.inputs ≡ buffer_count d.inputs
   pub outputs : k.outputs ≡ width (shape_of (type_in a))
@@ -67,10 +62,10 @@ pub record DeclaresFor (d : Declared) (size : Option ℕ) (t : Tree) (a : Annota
   pub privates : k.privates ≡ copy_lengths PrivateMemory (lowered_root d.names t a)
   pub variables : k.variables ≡ variable_count (lowered_root d.names t a)
   pub vectors : k.vectors ≡ 0
-  pub local : k.local ≡ row_of size
+  pub local : k.local ≡ size
 
 -- such a kernel with this code
-abbrev pub declared_kernel : Declared → (size : Option ℕ) → Tree → Annotation → Code → Kernel
+abbrev pub declared_kernel : Declared → (size : Option (ℕ × ℕ)) → Tree → Annotation → Code → Kernel
 declared_kernel d size t a code = record {
   inputs = buffer_count d.inputs;
   outputs = width (shape_of (type_in a));
@@ -79,12 +74,12 @@ declared_kernel d size t a code = record {
   privates = copy_lengths PrivateMemory (lowered_root d.names t a);
   variables = variable_count (lowered_root d.names t a);
   vectors = 0;
-  local = row_of size;
+  local = size;
   code = code;
 }
 
 -- the kernel is printed for the typed term at a launch, where the base names have these values
-pub record Prints (d : Declared) (size : Option ℕ) (bases : List ℕ) (t : Tree) (a : Annotation)
+pub record Prints (d : Declared) (size : Option (ℕ × ℕ)) (bases : List ℕ) (t : Tree) (a : Annotation)
     (l : Launch) (k : Kernel) : Type 0 where
   pub declares : DeclaresFor d size t a k
   pub code : IsCode l (input_marks (length_at bases) (first_buffer d.inputs) (input_shape d.inputs))
@@ -92,7 +87,7 @@ pub record Prints (d : Declared) (size : Option ℕ) (bases : List ℕ) (t : Tre
 
 -- the kernel that the printer makes of a typed term, where lengths are spelled so
 abbrev pub printed_kernel :
-    (List Monomial → Formula) → Declared → (size : Option ℕ) → Tree → Annotation → Kernel
+    (List Monomial → Formula) → Declared → (size : Option (ℕ × ℕ)) → Tree → Annotation → Kernel
 printed_kernel spell d local t a =
     declared_kernel d local t a
     (kernel_code spell (first_buffer d.inputs) (input_shape d.inputs) (lowered_root d.names t a)
@@ -104,11 +99,14 @@ abbrev pub cell_owner :
 cell_owner names bases l t a array index =
     owner (length_at bases) l (lowered_root names t a) (unflat (ty_at bases (type_in a)) index)
 
--- the launch is one row, has these sizes, and is as it is asked for
-pub record IsLaunchOf (d : Declared) (asks : Asks) (bases : List ℕ) (l : Launch) : Type 0 where
-  pub flat : IsFlat l
-  pub admissible : IsAdmissibleLaunch d.names asks bases l.global.0 l.local.0
+-- the launch has these sizes, and is as it is asked for: a term in which no map is of rows asks for
+-- one row, or for one item
+pub record IsLaunchOf (d : Declared) (asks : Asks) (bases : List ℕ) (t : Tree) (a : Annotation)
+    (l : Launch) : Type 0 where
+  pub admissible : IsAdmissibleLaunch d.names asks bases l.global l.local
   pub sizes : l.sizes ≡ sizes_at d.names bases
+  pub asked : is_in_rows (lowered_root d.names t a) ≡ false
+      → (asks.alone ≡ true) ⊎ (asks.flat ≡ true)
 
 -- the buffers hold the inputs, and the output's are as long as the value's lists
 pub record AreBuffersOf (d : Declared) (w : World) (t : Tree) (a : Annotation)
@@ -130,7 +128,7 @@ abbrev pub PrintedProgramsKeep : Type 0
 PrintedProgramsKeep =
     (d : Declared) (asks : Asks) (w : World) (t : Tree) (a : Annotation) (l : Launch)
     (k : Kernel) (c : Cells)
-    → IsLowerableProgram d w.bases t a → IsAdmissible d w → IsLaunchOf d asks w.bases l
+    → IsLowerableProgram d w.bases t a → IsAdmissible d w → IsLaunchOf d asks w.bases t a l
     → AreBuffersOf d w t a c → Prints d asks.local w.bases t a l k
     → EveryRunKeeps k l c (cell_owner d.names w.bases l t a) (lists_of (type_in a) (meaning w [] t))
 
@@ -139,7 +137,7 @@ abbrev pub PrintedProgramsStart : Type 0
 PrintedProgramsStart =
     (d : Declared) (asks : Asks) (w : World) (t : Tree) (a : Annotation) (l : Launch)
     (k : Kernel) (c : Cells)
-    → IsLowerableProgram d w.bases t a → IsAdmissible d w → IsLaunchOf d asks w.bases l
+    → IsLowerableProgram d w.bases t a → IsAdmissible d w → IsLaunchOf d asks w.bases t a l
     → AreBuffersOf d w t a c → Prints d asks.local w.bases t a l k → MayStart k l c
 
 -- lengths are spelled with their values at the launch
@@ -160,7 +158,7 @@ abbrev pub ProgramsArePrinted : Type 0
 ProgramsArePrinted =
     (d : Declared) (asks : Asks) (bases : List ℕ) (t : Tree) (a : Annotation) (l : Launch)
     (spell : List Monomial → Formula)
-    → IsLowerableProgram d bases t a → IsLaunchOf d asks bases l → IsStaged Written t a
+    → IsLowerableProgram d bases t a → IsLaunchOf d asks bases t a l → IsStaged Written t a
     → StandsAt l (lowered_root d.names t a) → FitsBuffers d bases a → IsSpelling spell bases l
     → Prints d asks.local bases t a l (printed_kernel spell d asks.local t a)
 
@@ -176,7 +174,7 @@ abbrev pub PrintedProgramsGoAlike : Type 0
 PrintedProgramsGoAlike =
     (d : Declared) (asks : Asks) (w : World) (t : Tree) (a : Annotation) (l : Launch)
     (k m : Kernel) (c : Cells) (s r : State)
-    → IsLowerableProgram d w.bases t a → IsAdmissible d w → IsLaunchOf d asks w.bases l
+    → IsLowerableProgram d w.bases t a → IsAdmissible d w → IsLaunchOf d asks w.bases t a l
     → AreBuffersOf d w t a c
     → Prints d asks.local w.bases t a l k → Prints d asks.local w.bases t a l m
     → IsStart k l c s → IsStart m l c r → SameContents l s r

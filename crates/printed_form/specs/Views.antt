@@ -2,8 +2,9 @@
 use Rattle.std.specs.Prelude.{ℕ, ◌+◌, ◌==◌, ◌&&◌, if◌then◌else◌, Bool, true, false, List, ◌∷◌, Option, Some, None}
 use Rattle.scalar_ops.specs.declared.op.Op.{Op}
 use Rattle.scalar_ops.specs.declared.op.Op.TheVariants.{Add, Sub, Mul, Min, Max, Div, Rem}
-use Rattle.kernel_tree.specs.declared.tree.Dimension.TheVariants.{X}
-use Rattle.kernel_tree.specs.Formula.{Formula, Number, Variable, LoopVariable, Size, Id, GroupId, LocalId, Binary}
+use Rattle.kernel_tree.specs.declared.tree.Dimension.{Dimension}
+use Rattle.kernel_tree.specs.declared.tree.Dimension.TheVariants.{X, Y}
+use Rattle.kernel_tree.specs.Formula.{IdForm, GlobalId, GroupId, LocalId, GlobalSize, GroupCount, LocalSize, Formula, Number, Variable, LoopVariable, Size, Id, Binary}
 use Rattle.kernel_tree.specs.Code.{Array}
 use Rattle.lift_ir.specs.Types.{Shape, Ty, Scalar, PairOf, ArrayOf, width, component}
 use Rattle.lift_ir.specs.Layouts.{Layout, Split, Join, Transpose, Reverse, Slide, Pad}
@@ -55,12 +56,27 @@ same_operator Div Div = true
 same_operator Rem Rem = true
 same_operator _ _ = false
 
+-- the same dimension
+abbrev pub same_dimension : Dimension → Dimension → Bool
+same_dimension X X = true
+same_dimension Y Y = true
+same_dimension _ _ = false
+
+-- the same that an item asks along a dimension
+abbrev pub same_id_form : IdForm → IdForm → Bool
+same_id_form GlobalId GlobalId = true
+same_id_form GroupId GroupId = true
+same_id_form LocalId LocalId = true
+same_id_form GlobalSize GlobalSize = true
+same_id_form GroupCount GroupCount = true
+same_id_form LocalSize LocalSize = true
+same_id_form _ _ = false
+
 -- the same expression, of the forms that indices and lengths have
 abbrev pub same_formula : Formula → Formula → Bool
 same_formula (Number m) (Number n) = m == n
 same_formula (LoopVariable i) (LoopVariable j) = i == j
-same_formula (Id X GroupId) (Id X GroupId) = true
-same_formula (Id X LocalId) (Id X LocalId) = true
+same_formula (Id d f) (Id e g) = same_dimension d e && same_id_form f g
 same_formula (Size s) (Size t) = s == t
 same_formula (Binary o a b) (Binary p c d) =
     same_operator o p && same_formula a c && same_formula b d

@@ -1,18 +1,41 @@
 -- A kernel printed for a term: by one work-item, or for a map over the launch.
-use Rattle.std.specs.Prelude.{◌≡◌, ℕ, ◌+◌, ◌<◌, ◌^◌, ◌⊎◌, Bool, List, [], ◌∷◌, ◌++◌, length, map, replicate, slice_index}
+use Rattle.std.specs.Prelude.{◌≡◌, ℕ, ◌+◌, ◌<◌, ◌^◌, ◌⊎◌, Bool, false, List, [], ◌∷◌, ◌++◌, length, map, replicate, slice_index}
 use Rattle.kernel_tree.specs.Code.{Input, Output, Code, End, Kernel}
 use Rattle.kernel_tree.specs.Launch as launch
 use Rattle.kernel_tree.specs.Launch.{Launch, Cells, IsWhole, item_count}
 use Rattle.kernel_tree.specs.Device.{row}
 use Rattle.lift_ir.specs.Types.{Ty, width, size, IsPosition, IsFlat}
 use Rattle.lift_ir.specs.Layouts.{result_position, IsInvertible}
-use Rattle.lift_ir.specs.Terms.{Global, PrivateMemory, Term, Reshape, LetArray, Map, push, HasType, no_type}
+use Rattle.lift_ir.specs.Terms.{Global, GlobalRows, PrivateMemory, Term, Reshape, LetArray, Map, push, HasType, no_type}
+use Rattle.lift_ir.specs.Owner.{is_in_rows}
 use Rattle.lift_ir.specs.Scalars.{Scalars, at_index}
 use Rattle.printed_form.specs.Counts.{load_count, variable_count, private_count, copy_lengths}
 use Rattle.printed_form.specs.Marks.{Mark, Nowhere, Spot, Marks, laid_in, loaded_marks}
 use Rattle.printed_form.specs.Form.{argument_marks, IsLoaded, IsLoop, IsArgumentWork, IsWritten}
 
--- a map over the launch, through layouts and lets of arrays, as this item runs it
+-- a map along a row of the launch, through layouts, as this item runs it in loops with these
+-- variables
+abbrev pub IsAlongRow : {A : Type 0} → Launch → (item : ℕ) → (ℕ → Marks) → (A → ℕ) → List ℕ
+    → (ℕ → Marks) → (a n : ℕ) → Term A → Marks → (code rest : Code) → Type 0
+IsAlongRow l item ins num ts env a n (Reshape y t) w code rest =
+    IsInvertible y
+    × IsAlongRow l item ins num ts env a n t (λ cs q. w cs (result_position num y q)) code rest
+IsAlongRow l item ins num ts env a n (Map Global len loads xs b) w code rest =
+    (mid : Code) × IsArgumentWork l item ins num ts env a n xs code mid
+    × IsLoop l item ins Global (num len)
+    (λ i body. (inner : Code)
+    × IsLoaded l item ins (ts ++ i ∷ []) loads (at_index i (argument_marks l ins num env a xs)) (n
+    + variable_count xs) body inner
+    × IsWritten l item ins num (ts ++ i ∷ [])
+    (push
+    (loaded_marks loads (at_index i (argument_marks l ins num env a xs)) (n
+    + variable_count xs)) env) (a + private_count xs)
+    (n + variable_count xs + load_count loads) b (at_index i w) inner End)
+    mid rest
+IsAlongRow l item ins num ts env a n _ w code rest = ⊥
+
+-- a map over the launch, along its one row or over its rows, through layouts and lets of arrays, as
+-- this item runs it
 abbrev pub IsOverLaunch : {A : Type 0} → Launch → (item : ℕ) → (ℕ → Marks) → (A → ℕ) → (ℕ → Marks)
     → (a n : ℕ) → Term A → Marks → (code rest : Code) → Type 0
 IsOverLaunch l item ins num env a n (Reshape y t) w code rest =
@@ -24,12 +47,14 @@ IsOverLaunch l item ins num env a n (LetArray v b) w code rest =
     (a + private_count v)
     (n + variable_count v) b w mid rest
 IsOverLaunch l item ins num env a n (Map Global len loads xs b) w code rest =
+    IsAlongRow l item ins num [] env a n (Map Global len loads xs b) w code rest
+IsOverLaunch l item ins num env a n (Map GlobalRows len loads xs b) w code rest =
     (mid : Code) × IsArgumentWork l item ins num [] env a n xs code mid
-    × IsLoop l item ins Global (num len)
+    × IsLoop l item ins GlobalRows (num len)
     (λ i body. (inner : Code)
     × IsLoaded l item ins ([] ++ i ∷ []) loads (at_index i (argument_marks l ins num env a xs)) (n
     + variable_count xs) body inner
-    × IsWritten l item ins num ([] ++ i ∷ [])
+    × IsAlongRow l item ins num ([] ++ i ∷ [])
     (push
     (loaded_marks loads (at_index i (argument_marks l ins num env a xs)) (n
     + variable_count xs)) env) (a + private_count xs)
@@ -58,13 +83,14 @@ abbrev pub IsGiven : Cells → Mark → ℕ → Type 0
 IsGiven c (Spot (Input a) i) v = (i < length (row c.ins a)) × (slice_index (row c.ins a) i ≡ v)
 IsGiven c _ v = ⊥
 
--- but for its code the kernel is one for the term of this type, at this launch of one row and with
--- these cells: the term has the type, the kernel declares its variables and its private arrays, and
--- the cells are as many as the value's, with the inputs' scalars where these stand
+-- but for its code the kernel is one for the term of this type, at this launch and with these cells:
+-- the launch is one row but for a term with a map over rows on top; the term has the type, the
+-- kernel declares its variables and its private arrays, and the cells are as many as the value's,
+-- with the inputs' scalars where these stand
 pub record IsMadeFor {A : Type 0} (l : Launch) (num : A → ℕ) (src : ℕ → Ty) (ins : ℕ → Marks)
     (sources : ℕ → Scalars) (t : Term A) (ty : Ty) (k : Kernel) (c : Cells) : Type 0 where
   pub whole : IsWhole l
-  pub flat : launch.IsFlat l
+  pub flat : is_in_rows t ≡ false → launch.IsFlat l
   pub some : 0 < item_count l
   pub few : item_count l < 2 ^ 31
   pub typed : HasType num src no_type t ty

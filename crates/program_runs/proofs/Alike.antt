@@ -16,9 +16,8 @@ use Rattle.kernel_tree.proofs.EveryRun.{accesses-append, is_run-front, run-appen
 use Rattle.kernel_tree.proofs.Scheduled.{divergence_in, failure_in}
 use Rattle.kernel_tree.proofs.Sights.{one_sight}
 use Rattle.ndrange_device.specs.Outcomes.{EndsUnder, sights}
-use Rattle.launch_file.specs.LaunchFile.{Given}
+use Rattle.launch_file.specs.LaunchFile.{Given, Run}
 use Rattle.strategy_script.specs.LocalSize.{local_fixed}
-use Rattle.launch_file.specs.declared.file.Ask.TheVariants.{Run}
 use Rattle.lift_tree.specs.Annotations.{Annotation, type_in}
 use Rattle.lift_tree.specs.Launches.{Asks, lists_of}
 use Rattle.lift_tree.specs.Meaning.{World, meaning}
@@ -30,10 +29,11 @@ use Rattle.lift_tree.specs.Values.{Value}
 use Rattle.lift_tree.proofs.Annotated.{annotated_is_typed}
 use Rattle.lowered_tree.specs.Kinds.{asks_of}
 use Rattle.nest_premises.specs.Groups.{LegalTermsArePrintable}
+use Rattle.nest_premises.specs.Laws.{TermsAskForRows}
 use Rattle.nest_premises.specs.Printable.{printer_for}
 use Rattle.printed_form.specs.Headline.{LeavesWanted}
 use Rattle.printed_form.specs.Programs.{AreBuffersOf, DeclaresFor, IsLaunchOf, SameContents}
-use Rattle.group_form.specs.Kernels.{KernelsGoAlike, Printer, OfItems, OfGroups, PrintsBy}
+use Rattle.group_form.specs.Kernels.{KernelsGoAlike, Printer, OfItems, OfGroups, OfGrids, PrintsBy}
 use Rattle.rewriting.specs.Keeps.{Keeps}
 use Rattle.strategy_script.specs.Steps.{State as TermState}
 use Rattle.program_source.specs.Program.{source_value}
@@ -120,11 +120,12 @@ shape_of_rows [] (o ∷ os) count long = absurd (omega (arith, count))
 shape_of_rows (r ∷ rs) [] count long = absurd (omega (arith, count))
 shape_of_rows (r ∷ rs) (o ∷ os) count long = ap₂ (λ x xs. x ∷ xs) (sym (long 0)) (shape_of_rows rs os (omega (arith, count)) (λ a. long (suc a)))
 
-declares_for : (p : Printer) (d : Declared) (local : Option ℕ) (bases : List ℕ) (t : Tree) (n : Annotation) (l : Launch) (k : Kernel) → PrintsBy p d local bases t n l k → DeclaresFor d local t n k
+declares_for : (p : Printer) (d : Declared) (local : Option (ℕ × ℕ)) (bases : List ℕ) (t : Tree) (n : Annotation) (l : Launch) (k : Kernel) → PrintsBy p d local bases t n l k → DeclaresFor d local t n k
 declares_for OfItems d local bases t n l k prints = prints.declares
 declares_for OfGroups d local bases t n l k prints = prints.declares
+declares_for OfGrids d local bases t n l k prints = prints.declares
 
-module _ (one_type : OneType) (alike : PrintedKernelsGoAlike) (p : PlainProgram) (output : PlainTy) (local : Option ℕ) (last : TermState) (accepted : IsAccepted p last.tree last.types) (keeps : Keeps (declared_by p) [] p.body last.tree) (typed : Types (declared_by p) [] p.body output)
+module _ (one_type : OneType) (rows : TermsAskForRows) (alike : PrintedKernelsGoAlike) (p : PlainProgram) (output : PlainTy) (local : Option (ℕ × ℕ)) (last : TermState) (accepted : IsAccepted p last.tree last.types) (keeps : Keeps (declared_by p) [] p.body last.tree) (typed : Types (declared_by p) [] p.body output)
     (k m : Kernel) (first : PrintsAtAll p local last k) (other : PrintsAtAll p local last m) (meets : MeetsSource p output local last m)
     (g : Given) (ok : IsAdmissibleFor p (asks_of local last.tree) g) (events releases : ℕ) (e : RunsAsGiven p output k g events releases) where
   abbrev w : World
@@ -136,8 +137,12 @@ module _ (one_type : OneType) (alike : PrintedKernelsGoAlike) (p : PlainProgram)
   long : map length cells.outs ≡ map length (lists_of output (source_value p w))
   long = shape_of_rows (lists_of output (source_value p w)) cells.outs e.left.count e.left.lengths
 
-  here : IsLaunchOf (declared_by p) (asks_of local last.tree) g.bases g.launch
-  here = record { flat = ok.flat; admissible = ok.launch; sizes = ok.world.sizes }
+  here : IsLaunchOf (declared_by p) (asks_of local last.tree) g.bases last.tree last.types g.launch
+  here = record {
+    admissible = ok.launch;
+    sizes = ok.world.sizes;
+    asked = rows (declared_by p) last.tree last.types local accepted.legal accepted.copies;
+  }
 
   same_type : output ≡ type_in last.types
   same_type = one_type (declared_by p) [] last.tree output (type_in last.types) (keeps.typed output typed) (annotated_is_typed (declared_by p) [] last.tree last.types accepted.legal.nodes)
@@ -169,7 +174,7 @@ module _ (one_type : OneType) (alike : PrintedKernelsGoAlike) (p : PlainProgram)
       (first g.bases g.launch here) (other g.bases g.launch here) (start_is k g.launch cells) (start_is m g.launch cells) contents
 
   admits : Admits p output (asks_of local last.tree) w g.launch cells
-  admits = record { world = ok.world; flat = ok.flat; launch = ok.launch; sizes = refl; inputs = refl; outputs = long }
+  admits = record { world = ok.world; launch = ok.launch; sizes = refl; inputs = refl; outputs = long }
 
   abbrev runs_alike : RunsAsGiven p output m g events releases
   runs_alike =
@@ -179,7 +184,7 @@ module _ (one_type : OneType) (alike : PrintedKernelsGoAlike) (p : PlainProgram)
   traced_as : (traced : Bool) → traced_sights traced k g.launch cells e.run ≡ traced_sights traced m g.launch cells runs_alike.run
   traced_as traced = traced_alike g.schedule k m g.launch cells (lists_of output (source_value p w)) events releases go_alike e traced
 
-module _ (one : OneKernel) (one_type : OneType) (ends : CompilationEndsOnce) (alike : PrintedKernelsGoAlike) (program script launch : List ℕ) (traced : Bool) (lines : List ℕ) (ran : AreRunLines program script launch traced lines) where
+module _ (one : OneKernel) (one_type : OneType) (rows : TermsAskForRows) (ends : CompilationEndsOnce) (alike : PrintedKernelsGoAlike) (program script launch : List ℕ) (traced : Bool) (lines : List ℕ) (ran : AreRunLines program script launch traced lines) where
   for_program : (output : PlainTy) (asks : Asks) (text : List ℕ) → IsCompiled program script ran.source output asks text → AreLinesOfText ran.source ran.output text ran.given traced lines
   for_program output asks text other =
       let c = ran.compiled in
@@ -193,8 +198,8 @@ module _ (one : OneKernel) (one_type : OneType) (ends : CompilationEndsOnce) (al
       let first = subst (PrintsAtAll ran.source local c.last) same_kernel c.prints in
       let second = subst (λ (x : TermState). PrintsAtAll ran.source local x other.kernel) same_last other.prints in
       let meets = subst (λ (a : PlainTy). MeetsSource ran.source a local c.last other.kernel) same_output (subst (λ (x : TermState). MeetsSource ran.source output local x other.kernel) same_last other.meets) in
-      let ok = subst (λ (a : Asks). IsAdmissibleFor ran.source a ran.given) (sym c.asked) (given_is_admissible ran.source (Run ran.task ran.local) launch ran.given refl ran.launch_file) in
-      let e = runs_alike one_type alike ran.source ran.output local c.last c.accepted c.keeps c.typed.typed runs.kernel other.kernel first second meets ran.given ok lines_are.events lines_are.releases runs.run in
+      let ok = subst (λ (a : Asks). IsAdmissibleFor ran.source a ran.given) (sym c.asked) (given_is_admissible ran.source (Run ran.asks) launch ran.given refl ran.launch_file) in
+      let e = runs_alike one_type rows alike ran.source ran.output local c.last c.accepted c.keeps c.typed.typed runs.kernel other.kernel first second meets ran.given ok lines_are.events lines_are.releases runs.run in
       record {
         events = lines_are.events;
         releases = lines_are.releases;
@@ -203,7 +208,7 @@ module _ (one : OneKernel) (one_type : OneType) (ends : CompilationEndsOnce) (al
           kernel = other.kernel;
           read = other.written;
           run = e;
-          seen_of_it = runs.seen_of_it ∙ traced_as one_type alike ran.source ran.output local c.last c.accepted c.keeps c.typed.typed runs.kernel other.kernel first second meets ran.given ok lines_are.events lines_are.releases runs.run traced;
+          seen_of_it = runs.seen_of_it ∙ traced_as one_type rows alike ran.source ran.output local c.last c.accepted c.keeps c.typed.typed runs.kernel other.kernel first second meets ran.given ok lines_are.events lines_are.releases runs.run traced;
         };
         written = lines_are.written;
       }
@@ -214,8 +219,7 @@ module _ (one : OneKernel) (one_type : OneType) (ends : CompilationEndsOnce) (al
       record {
         source = ran.source;
         output = ran.output;
-        task = ran.task;
-        local = ran.local;
+        asks = ran.asks;
         read = ran.compiled.read;
         given = ran.given;
         launch_file = ran.launch_file;

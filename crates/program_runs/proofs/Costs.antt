@@ -9,8 +9,7 @@ use Rattle.kernel_tree.specs.Device.{IsRun, IsStart, IsStuck, State, device_of, 
 use Rattle.kernel_tree.specs.Histories.{is_release}
 use Rattle.kernel_tree.specs.Launch.{Cells, IsWhole, Launch, first_item, group_count, ids_of, item_count}
 use Rattle.kernel_tree.specs.Numbering.{LaidOut}
-use Rattle.launch_file.specs.LaunchFile.{Given, IsLaunchFile}
-use Rattle.launch_file.specs.declared.file.Ask.TheVariants.{Cost}
+use Rattle.launch_file.specs.LaunchFile.{Cost, Given, IsLaunchFile}
 use Rattle.launch_lengths.specs.Bases.{bases_of}
 use Rattle.launch_lengths.specs.Laws.{BasesComeBack}
 use Rattle.lift_ir.specs.AtLaunch.{length_at}
@@ -23,10 +22,11 @@ use Rattle.lift_tree.specs.Types.{PlainTy}
 use Rattle.lift_tree.specs.Typing.{Declared, OneType, declared_by}
 use Rattle.lift_tree.specs.Values.{Value}
 use Rattle.lift_tree.proofs.Annotated.{annotated_is_typed}
-use Rattle.lowered_tree.specs.Kinds.{asks_of, is_task}
+use Rattle.lowered_tree.specs.Kinds.{asks_of}
 use Rattle.lowered_tree.specs.Named.{declared_of}
 use Rattle.lowered_tree.specs.declared.lowered.Spaced.{Spaced}
 use Rattle.nest_premises.specs.Groups.{LegalTermsArePrintable}
+use Rattle.nest_premises.specs.Laws.{TermsAskForRows}
 use Rattle.nest_premises.specs.Printable.{printer_for}
 use Rattle.phase_plan.specs.Plans.{IsTold}
 use Rattle.phase_plan.specs.declared.planned.Plan.{Plan}
@@ -37,6 +37,7 @@ use Rattle.strategy_script.specs.LocalSize.{local_fixed}
 use Rattle.strategy_script.specs.Steps.{State as TermState}
 use Rattle.term_traffic.specs.Laws.{HasTraffic, RunsHaveTraffic, traffic_by}
 use Rattle.term_traffic.specs.Traffic.{releases_of, traffic_of}
+use Rattle.sequence_runs.specs.Stages.{AsksForRow}
 use Rattle.program_source.specs.Program.{source_value}
 use Rattle.compilation.specs.Compiled.{IsCompiled}
 use Rattle.compilation.specs.Laws.{CompilationEndsOnce}
@@ -50,8 +51,8 @@ use Rattle.program_runs.specs.Costs.{AreCostsOf, CostsInEveryRun, TellTraffic, T
 -- ---- the launch
 
 -- the base names' values are told by the sizes that a launch file gives
-pub given_bases : BasesComeBack → (p : PlainProgram) (task : Bool) (local : Option ℕ) (launch : List ℕ) (g : Given) → AreNames (declared_by p).names → IsLaunchFile p (Cost task local) launch g → bases_of (declared_by p).names g.launch.sizes ≡ g.bases
-given_bases back p task local launch g names file =
+pub given_bases : BasesComeBack → (p : PlainProgram) (asks : Asks) (launch : List ℕ) (g : Given) → AreNames (declared_by p).names → IsLaunchFile p (Cost asks) launch g → bases_of (declared_by p).names g.launch.sizes ≡ g.bases
+given_bases back p asks launch g names file =
     let gives = file.2 in
     ap (bases_of (declared_by p).names) gives.bases ∙ back (declared_by p).names g.bases names gives.admissible.sizes
 
@@ -71,21 +72,21 @@ plan_tells needed s plan l items lines same told is =
     })
 
 -- and of a program's last term, where it is told of that term placed
-pub last_tells : (d : Declared) (local : Option ℕ) (last : TermState) (x : Placed) (bases : List ℕ) (l : Launch) (items : Bool) (lines : List ℕ) → AreOfLast d local last x → bases_of d.names l.sizes ≡ bases → Told x.spaced l items lines → TellTraffic d local last bases l items lines
+pub last_tells : (d : Declared) (local : Option (ℕ × ℕ)) (last : TermState) (x : Placed) (bases : List ℕ) (l : Launch) (items : Bool) (lines : List ℕ) → AreOfLast d local last x → bases_of d.names l.sizes ≡ bases → Told x.spaced l items lines → TellTraffic d local last bases l items lines
 last_tells d local last x bases l items lines are same told =
     subst (λ (ys : List ℕ). TellTraffic d local last ys l items lines) same
-    (subst (λ (o : Option ℕ). TellTraffic d o last (bases_of d.names l.sizes) l items lines) are.fixed
+    (subst (λ (o : Option (ℕ × ℕ)). TellTraffic d o last (bases_of d.names l.sizes) l items lines) are.fixed
     (subst (λ (t : TermState). TellTraffic d x.spaced.mapped.local t (bases_of d.names l.sizes) l items lines) are.term
     (subst (λ (e : Declared). TellTraffic e x.spaced.mapped.local (lowered_state x.spaced.mapped.lowered) (bases_of e.names l.sizes) l items lines) are.declared told)))
 
 -- the launch is one of the term placed
-pub launch_of_placed : (d : Declared) (local : Option ℕ) (last : TermState) (x : Placed) (bases : List ℕ) (l : Launch) → AreOfLast d local last x → bases_of d.names l.sizes ≡ bases → IsLaunchOf d (asks_of local last.tree) bases l
-    → IsLaunchOf (declared_of x.spaced.mapped.lowered) (asks_of x.spaced.mapped.local (lowered_state x.spaced.mapped.lowered).tree) (bases_of x.spaced.mapped.lowered.names l.sizes) l
+pub launch_of_placed : (d : Declared) (local : Option (ℕ × ℕ)) (last : TermState) (x : Placed) (bases : List ℕ) (l : Launch) → AreOfLast d local last x → bases_of d.names l.sizes ≡ bases → IsLaunchOf d (asks_of local last.tree) bases last.tree last.types l
+    → IsLaunchOf (declared_of x.spaced.mapped.lowered) (asks_of x.spaced.mapped.local (lowered_state x.spaced.mapped.lowered).tree) (bases_of x.spaced.mapped.lowered.names l.sizes) (lowered_state x.spaced.mapped.lowered).tree (lowered_state x.spaced.mapped.lowered).types l
 launch_of_placed d local last x bases l are same is =
-    subst (λ (e : Declared). IsLaunchOf e (asks_of x.spaced.mapped.local (lowered_state x.spaced.mapped.lowered).tree) (bases_of e.names l.sizes) l) (sym are.declared)
-    (subst (λ (t : TermState). IsLaunchOf d (asks_of x.spaced.mapped.local t.tree) (bases_of d.names l.sizes) l) (sym are.term)
-    (subst (λ (o : Option ℕ). IsLaunchOf d (asks_of o last.tree) (bases_of d.names l.sizes) l) (sym are.fixed)
-    (subst (λ (ys : List ℕ). IsLaunchOf d (asks_of local last.tree) ys l) (sym same) is)))
+    subst (λ (e : Declared). IsLaunchOf e (asks_of x.spaced.mapped.local (lowered_state x.spaced.mapped.lowered).tree) (bases_of e.names l.sizes) (lowered_state x.spaced.mapped.lowered).tree (lowered_state x.spaced.mapped.lowered).types l) (sym are.declared)
+    (subst (λ (t : TermState). IsLaunchOf d (asks_of x.spaced.mapped.local t.tree) (bases_of d.names l.sizes) t.tree t.types l) (sym are.term)
+    (subst (λ (o : Option (ℕ × ℕ)). IsLaunchOf d (asks_of o last.tree) (bases_of d.names l.sizes) last.tree last.types l) (sym are.fixed)
+    (subst (λ (ys : List ℕ). IsLaunchOf d (asks_of local last.tree) ys last.tree last.types l) (sym same) is)))
 
 -- ---- every run of a text
 
@@ -96,6 +97,7 @@ pub record Laws : Type 0 where
   pub laid : (l : Launch) → IsWhole l → LaidOut l
   pub one_type : OneType
   pub printable : LegalTermsArePrintable
+  pub rows : TermsAskForRows
   pub runs : RunsHaveTraffic
 
 module _ (laws : Laws) (script : List ℕ) (p : PlainProgram) (output : PlainTy) (asks : Asks) (program text : List ℕ) (compiled : IsCompiled program script p output asks text) where
@@ -104,17 +106,20 @@ module _ (laws : Laws) (script : List ℕ) (p : PlainProgram) (output : PlainTy)
       laws.one_type (declared_by p) [] compiled.last.tree output (type_in compiled.last.types) (compiled.keeps.typed output compiled.typed.typed)
       (annotated_is_typed (declared_by p) [] compiled.last.tree compiled.last.types compiled.accepted.legal.nodes)
 
-  module _ (items : Bool) (lines launch : List ℕ) (g : Given) (file : IsLaunchFile p (Cost (is_task compiled.last.tree) (local_fixed script)) launch g) (told : TellTraffic (declared_by p) (local_fixed script) compiled.last g.bases g.launch items lines) where
-    here : IsLaunchOf (declared_by p) (asks_of (local_fixed script) compiled.last.tree) g.bases g.launch
-    here = launch_is_admissible p (Cost (is_task compiled.last.tree) (local_fixed script)) launch g file
+  module _ (items : Bool) (lines launch : List ℕ) (g : Given) (file : IsLaunchFile p (Cost (asks_of (local_fixed script) compiled.last.tree)) launch g) (told : TellTraffic (declared_by p) (local_fixed script) compiled.last g.bases g.launch items lines) where
+    asked : AsksForRow (local_fixed script) (declared_by p) compiled.last.tree compiled.last.types
+    asked = laws.rows (declared_by p) compiled.last.tree compiled.last.types (local_fixed script) compiled.accepted.legal compiled.accepted.copies
+
+    here : IsLaunchOf (declared_by p) (asks_of (local_fixed script) compiled.last.tree) g.bases compiled.last.tree compiled.last.types g.launch
+    here = launch_is_admissible p (Cost (asks_of (local_fixed script) compiled.last.tree)) launch g compiled.last.tree compiled.last.types asked file
 
     laid : LaidOut g.launch
-    laid = laws.laid g.launch (programs.whole g.launch (asks_of (local_fixed script) compiled.last.tree) (declared_by p).names g.bases here.flat here.admissible)
+    laid = laws.laid g.launch (programs.whole g.launch (asks_of (local_fixed script) compiled.last.tree) (declared_by p).names g.bases here.admissible)
 
     module _ (w : World) (c : Cells) (s : State) (es : List Event) (a : Admits p output (asks_of (local_fixed script) compiled.last.tree) w g.launch c) (start : IsStart compiled.kernel g.launch c s) (r : IsRun (device_of compiled.kernel g.launch c) s es)
         (stuck : IsStuck (device_of compiled.kernel g.launch c) (run (device_of compiled.kernel g.launch c) s es)) where
-      of_world : IsLaunchOf (declared_by p) (asks_of (local_fixed script) compiled.last.tree) w.bases g.launch
-      of_world = record { flat = a.flat; admissible = a.launch; sizes = a.sizes ∙ a.world.sizes }
+      of_world : IsLaunchOf (declared_by p) (asks_of (local_fixed script) compiled.last.tree) w.bases compiled.last.tree compiled.last.types g.launch
+      of_world = record { admissible = a.launch; sizes = a.sizes ∙ a.world.sizes; asked = asked }
 
       -- the valuation is the launch file's
       same_bases : w.bases ≡ g.bases
@@ -176,5 +181,5 @@ costs_of_texts laws program script launch items lines are source output asks tex
         let one_end = laws.ends are.source script (Ok are.last) (Ok compiled.last) are.legal compiled.legal in
         let same_last : are.last ≡ compiled.last = cc (one_end) in
         costs_of laws script are.source output asks program text compiled items lines launch are.given
-        (subst (λ (t : TermState). IsLaunchFile are.source (Cost (is_task t.tree) (local_fixed script)) launch are.given) same_last are.launch_file)
+        (subst (λ (t : TermState). IsLaunchFile are.source (Cost (asks_of (local_fixed script) t.tree)) launch are.given) same_last are.launch_file)
         (subst (λ (t : TermState). TellTraffic (declared_by are.source) (local_fixed script) t are.given.bases are.given.launch items lines) same_last are.told)

@@ -13,11 +13,11 @@ use Rattle.kernel_tree.specs.Launch.{Cells, Launch, MayStart}
 use Rattle.kernel_tree.specs.Schedule.{Schedule}
 use Rattle.kernel_tree.proofs.Scheduled.{no_fault}
 use Rattle.lift_tree.specs.Annotations.{type_in}
-use Rattle.lift_tree.specs.Launches.{lists_of}
+use Rattle.size_arith.specs.Ranges.{sizes_at}
+use Rattle.lift_tree.specs.Launches.{IsAdmissibleLaunch, lists_of}
 use Rattle.lift_tree.specs.Types.{PlainTy}
 use Rattle.lift_tree.specs.Values.{Value}
 use Rattle.printed_form.specs.Headline.{LeavesWanted}
-use Rattle.printed_form.specs.Programs.{IsLaunchOf}
 use Rattle.value_lists.specs.Lists.{list_lengths}
 use Rattle.lowered_tree.specs.Kinds.{asks_of}
 use Rattle.ndrange_device.specs.Outcomes.{EndsUnder, FaultsUnder}
@@ -51,7 +51,7 @@ row_behind (x ∷ p) q a = let e : length (x ∷ p) + a ≡ suc (length p + a) =
 
 -- where these kernels are run in order on these buffers, every run keeps what its kernel owes, and
 -- the last leaves the value
-abbrev pub KeepOn : (local : Option ℕ) → (bases : List ℕ) → PlainTy → Value → List Stage → (ins : List (List ℕ)) → Type 0
+abbrev pub KeepOn : (local : Option (ℕ × ℕ)) → (bases : List ℕ) → PlainTy → Value → List Stage → (ins : List (List ℕ)) → Type 0
 KeepOn local bases output v ks ins = (rs : List StageRun) → BeginsWith ins rs → AreRuns local bases ks rs → AllKeep bases output v ks rs
 
 -- a run writes no input
@@ -66,10 +66,10 @@ abbrev run_so : Stage → (bases : List ℕ) → (ins : List (List ℕ)) → Lau
 run_so k bases ins l es = record { launch = l; cells = from k bases ins; state = start_state k.kernel (from k bases ins); events = es }
 
 -- the first of those to come
-module _ (local : Option ℕ) (bases : List ℕ) (output : PlainTy) (v : Value) (k : Stage) (ks : List Stage) (ins : List (List ℕ)) (keep : KeepOn local bases output v (k ∷ ks) ins) (l : Launch) (ok : IsLaunchOf k.declared (asks_of local k.tree) bases l) where
+module _ (local : Option (ℕ × ℕ)) (bases : List ℕ) (output : PlainTy) (v : Value) (k : Stage) (ks : List Stage) (ins : List (List ℕ)) (keep : KeepOn local bases output v (k ∷ ks) ins) (l : Launch) (ok : IsAdmissibleLaunch k.declared.names (asks_of local k.tree) bases l.global l.local) (sized : l.sizes ≡ sizes_at k.declared.names bases) where
   is_run : (es : List Event) → IsRun (device_of k.kernel l (from k bases ins)) (start_state k.kernel (from k bases ins)) es
       → IsStageRun local bases k (run_so k bases ins l es)
-  is_run es r = record { launch = ok; outputs = blank_lengths (list_lengths bases (type_in k.types)); start = start_is k.kernel l (from k bases ins); run = r }
+  is_run es r = record { launch = ok; sizes = sized; outputs = blank_lengths (list_lengths bases (type_in k.types)); start = start_is k.kernel l (from k bases ins); run = r }
 
   keeps : (es : List Event) → IsRun (device_of k.kernel l (from k bases ins)) (start_state k.kernel (from k bases ins)) es
       → (a : PlainTy) × (u : Value) × StageKeeps bases k (run_so k bases ins l es) a u

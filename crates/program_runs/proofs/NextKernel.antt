@@ -19,7 +19,7 @@ use Rattle.program_runs.proofs.Turns.{Next, SoFar, got, launches_count, mapped_a
 
 -- what is read where a list has no such number
 abbrev pub none : held.Count
-none = record { global = 0; local = 0 }
+none = record { global = (0, 0); local = (0, 0) }
 
 -- the count of this number, as it is read
 abbrev pub count_at : List held.Count → ℕ → held.Count
@@ -30,8 +30,8 @@ read_again [] i d = refl
 read_again (c ∷ cs) zero d = refl
 read_again (c ∷ cs) (suc i) d = read_again cs i d
 
-module _ (p : PlainProgram) (output : PlainTy) (local : Option ℕ) (outlines : List KernelOutline) (text : List ℕ) (s : Shared) (counts : List held.Count) (kernels : List Kernel) (first : List (List ℕ))
-    (one : TextsAreOfOneSequence) (read : IsSequenceText text (map kernel_of kernels)) (ok : AreAdmissibleFor p local (map outline_of outlines) (record { shared = s; counts = map count_of counts })) (bars : ∥ IsSequenceFor p output local (map outline_of outlines) text ∥₁) where
+module _ (p : PlainProgram) (output : PlainTy) (outlines : List KernelOutline) (text : List ℕ) (s : Shared) (counts : List held.Count) (kernels : List Kernel) (first : List (List ℕ))
+    (one : TextsAreOfOneSequence) (read : IsSequenceText text (map kernel_of kernels)) (ok : AreAdmissibleFor p (map outline_of outlines) (record { shared = s; counts = map count_of counts })) (bars : ∥ IsSequenceFor p output (map outline_of outlines) text ∥₁) where
   abbrev given : GivenInOrder
   given = record { shared = s; counts = map count_of counts }
 
@@ -47,7 +47,7 @@ module _ (p : PlainProgram) (output : PlainTy) (local : Option ℕ) (outlines : 
     has_count =
         let number = here.0 in
         let less = here.1 in
-        let many = launches_count p output local (map outline_of outlines) text given (map kernel_of kernels) first one read ok bars in
+        let many = launches_count p output (map outline_of outlines) text given (map kernel_of kernels) first one read ok bars in
         let a = length-map counts count_of in
         let b = length-map kernels kernel_of in
         omega (arith, number, less, many, a, b)
@@ -56,18 +56,18 @@ module _ (p : PlainProgram) (output : PlainTy) (local : Option ℕ) (outlines : 
     has_outline =
         let number = here.0 in
         let less = here.1 in
-        let many = outlines_count p output local (map outline_of outlines) text given (map kernel_of kernels) first one read ok bars in
+        let many = outlines_count p output (map outline_of outlines) text given (map kernel_of kernels) first one read ok bars in
         let a = length-map outlines outline_of in
         let b = length-map kernels kernel_of in
         omega (arith, number, less, many, a, b)
 
     pub next_kernel : (o : KernelOutline) → o ≡ get_or outlines i o → (ins left : List (List ℕ)) (events releases : ℕ)
-        → SoFar p output local (map outline_of outlines) text given (map kernel_of kernels) first n ins left events releases
-        → Next p output local (map outline_of outlines) text given (map kernel_of kernels) first n (kernel_of x) (outline_of o) (count_of (count_at counts i)) ins left events releases
+        → SoFar p output (map outline_of outlines) text given (map kernel_of kernels) first n ins left events releases
+        → Next p output (map outline_of outlines) text given (map kernel_of kernels) first n (kernel_of x) (outline_of o) (count_of (count_at counts i)) ins left events releases
     next_kernel o at_o =
         let c = count_at counts i in
         let at_c = read_again counts i none in
-        next p output local (map outline_of outlines) text given (map kernel_of kernels) first one read ok bars n (kernel_of x) (outline_of o) (count_of c)
+        next p output (map outline_of outlines) text given (map kernel_of kernels) first one read ok bars n (kernel_of x) (outline_of o) (count_of c)
         (mapped_at kernel_of kernels (map kernel_of kernels) n x refl here.2)
         (mapped_at outline_of outlines (map outline_of outlines) n o refl (got outlines i n o same (subst (λ k. k < length outlines) same has_outline) at_o))
         (mapped_at count_of counts (map count_of counts) n c refl (got counts i n c same (subst (λ k. k < length counts) same has_count) at_c))

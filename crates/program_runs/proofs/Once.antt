@@ -1,16 +1,17 @@
 -- The stages of each command come to one end.
-use Rattle.std.proofs.Common.{◌≡◌, ◌∙◌, Bool, ℕ, List, Option, ap, map, sym, subst, refl, arith, inl, inr, None, Result, Ok, Err}
+use Rattle.std.proofs.Common.{◌≡◌, ◌∙◌, ℕ, List, ap, map, sym, subst, refl, arith, inl, inr, None, Result, Ok, Err}
 use Rattle.std.proofs.lemmas.Option.{none-some, same_Some}
 use Rattle.lift_reader.specs.ProgramText.{IsProgramText, first_limit}
 use Rattle.lift_reader.specs.declared.refusal.ReadRefusal.TheVariants as readings
 use Rattle.lift_tree.specs.Limits.{HasProperInputs}
 use Rattle.lift_tree.specs.Programs.{PlainProgram}
-use Rattle.lowered_tree.specs.Kinds.{is_task}
+use Rattle.lift_tree.specs.Launches.{Asks}
+use Rattle.lowered_tree.specs.Kinds.{asks_of}
 use Rattle.launch_file.specs.Judged as launches
 use Rattle.launch_file.specs.Laws.{FilesAreNotRefused, FilesGiveOneThing, StagesFilesAreNotRefused, StagesFilesGiveOneThing}
 use Rattle.launch_file.specs.Stages as in_order
-use Rattle.launch_file.specs.declared.file.Ask.{Ask}
-use Rattle.launch_file.specs.declared.file.Ask.TheVariants as asks
+use Rattle.launch_file.specs.LaunchFile as asks
+use Rattle.launch_file.specs.LaunchFile.{PlainAsk}
 use Rattle.launch_file.specs.declared.refusal.LaunchNo.{LaunchNo}
 use Rattle.launch_file.specs.declared.refusal.LaunchNo.TheVariants as no
 use Rattle.pattern_types.specs.declared.refusal.TypeRefusal.TheVariants as typings
@@ -45,7 +46,7 @@ pub record LaunchLaws : Type 0 where
   pub refused_in_order : StagesFilesAreNotRefused
   pub one_in_order : StagesFilesGiveOneThing
 
-launch_one : FilesAreNotRefused → FilesGiveOneThing → (p : PlainProgram) (ask : Ask) (launch : List ℕ) → HasProperInputs p → IsOne (LaunchOf p ask launch)
+launch_one : FilesAreNotRefused → FilesGiveOneThing → (p : PlainProgram) (ask : PlainAsk) (launch : List ℕ) → HasProperInputs p → IsOne (LaunchOf p ask launch)
 launch_one well one p ask launch proper (Ok g) (Ok h) a b = ap Ok (one p ask launch g h proper a b)
 launch_one well one p ask launch proper (Ok g) (Err e) a b = absurd (well p ask launch g e proper a b)
 launch_one well one p ask launch proper (Err e) (Ok g) a b = absurd (well p ask launch g e proper b a)
@@ -55,12 +56,12 @@ launch_one well one p ask launch proper (Err e) (Err f) (inr a) (inl b) = absurd
 launch_one well one p ask launch proper (Err e) (Err f) (inr a) (inr b) =
     sym a.2 ∙ ap (launches.judged p ask) (same_Some a.0 b.0 (sym a.1.1 ∙ b.1.1)) ∙ b.2
 
-launched_one : CompilationEndsOnce → LaunchLaws → (ask : Bool → Option ℕ → Ask) (text : List ℕ) (p : PlainProgram) (script launch : List ℕ) → IsRead text p → IsOne (LaunchedOf ask p script launch)
+launched_one : CompilationEndsOnce → LaunchLaws → (ask : Asks → PlainAsk) (text : List ℕ) (p : PlainProgram) (script launch : List ℕ) → IsRead text p → IsOne (LaunchedOf ask p script launch)
 launched_one compiled laws ask text p script launch read =
     then_one _ _ (as_one source_failed (LegalOf p script) (compiled p script)) (λ last is.
-    as_one (launch_failed p) (LaunchOf p (ask (is_task last.tree) (local_fixed script)) launch) (launch_one laws.refused laws.one p (ask (is_task last.tree) (local_fixed script)) launch (laws.proper text p is.1.0 read is.1.1)))
+    as_one (launch_failed p) (LaunchOf p (ask (asks_of (local_fixed script) last.tree)) launch) (launch_one laws.refused laws.one p (ask (asks_of (local_fixed script) last.tree)) launch (laws.proper text p is.1.0 read is.1.1)))
 
-launches_one : StagesFilesAreNotRefused → StagesFilesGiveOneThing → (p : PlainProgram) (asks : List Ask) (launch : List ℕ) → HasProperInputs p → IsOne (LaunchesOf p asks launch)
+launches_one : StagesFilesAreNotRefused → StagesFilesGiveOneThing → (p : PlainProgram) (asks : List PlainAsk) (launch : List ℕ) → HasProperInputs p → IsOne (LaunchesOf p asks launch)
 launches_one well one p asks launch proper (Ok g) (Ok h) a b = ap Ok (one p asks launch g h proper a b)
 launches_one well one p asks launch proper (Ok g) (Err e) a b = absurd (well p asks launch g e proper a b)
 launches_one well one p asks launch proper (Err e) (Ok g) a b = absurd (well p asks launch g e proper b a)
@@ -73,8 +74,8 @@ launches_one well one p asks launch proper (Err e) (Err f) (inr a) (inr b) =
 run_stages_one : SequencesEndOnce → LaunchLaws → (text : List ℕ) (p : PlainProgram) (script launch : List ℕ) → IsRead text p → IsOne (RunStagesOf p script launch)
 run_stages_one compiled laws text p script launch read =
     then_one _ _ (as_one source_failed (SequenceOf p script) (compiled p script)) (λ parts made.
-    as_one (launch_failed p) (LaunchesOf p (asks_in_order (map outline_in parts) (local_fixed script)) launch)
-    (launches_one laws.refused_in_order laws.one_in_order p (asks_in_order (map outline_in parts) (local_fixed script)) launch (laws.proper text p made.1.0 read made.1.1)))
+    as_one (launch_failed p) (LaunchesOf p (asks_in_order (map (outline_in (local_fixed script)) parts)) launch)
+    (launches_one laws.refused_in_order laws.one_in_order p (asks_in_order (map (outline_in (local_fixed script)) parts)) launch (laws.proper text p made.1.0 read made.1.1)))
 
 eval_one : SourcesEndOnce → LaunchLaws → (text : List ℕ) (p : PlainProgram) (launch : List ℕ) → IsRead text p → IsOne (EvalOf p launch)
 eval_one sources laws text p launch read =
@@ -105,7 +106,7 @@ told_whole f why is = subst HidesNoMemory (sym is) (refusal_whole why)
 source_whole : {A : Type 0} (R : PlainProgram → Result A Refusal → Type 0) (p : PlainProgram) (f : Failure) → As source_failed (R p) (Err f) → HidesNoMemory f
 source_whole R p f (why, h, is) = told_whole f why is
 
-launched_whole : (ask : Bool → Option ℕ → Ask) (script launch : List ℕ) (p : PlainProgram) (f : Failure) → LaunchedOf ask p script launch (Err f) → HidesNoMemory f
+launched_whole : (ask : Asks → PlainAsk) (script launch : List ℕ) (p : PlainProgram) (f : Failure) → LaunchedOf ask p script launch (Err f) → HidesNoMemory f
 launched_whole ask script launch p f (inl (why, h, is)) = told_whole f why is
 launched_whole ask script launch p f (inr (last, legal, (why, h, is))) = subst HidesNoMemory (sym is) (launch_whole p why)
 
@@ -157,7 +158,7 @@ terms_end sources program script = one_end sources program (λ p. As source_fail
 kernel_end : SourcesEndOnce → CompilationEndsOnce → (program script : List ℕ) → HasOneEnd program (λ p. As source_failed (LegalOf p script))
 kernel_end sources compiled program script = one_end sources program (λ p. As source_failed (LegalOf p script)) (λ p read. as_one source_failed (LegalOf p script) (compiled p script)) (source_whole (λ p. LegalOf p script))
 
-launched_end : SourcesEndOnce → CompilationEndsOnce → LaunchLaws → (ask : Bool → Option ℕ → Ask) (program script launch : List ℕ) → HasOneEnd program (λ p. LaunchedOf ask p script launch)
+launched_end : SourcesEndOnce → CompilationEndsOnce → LaunchLaws → (ask : Asks → PlainAsk) (program script launch : List ℕ) → HasOneEnd program (λ p. LaunchedOf ask p script launch)
 launched_end sources compiled laws ask program script launch = one_end sources program (λ p. LaunchedOf ask p script launch) (λ p read. launched_one compiled laws ask program p script launch read) (launched_whole ask script launch)
 
 eval_end : SourcesEndOnce → LaunchLaws → (program launch : List ℕ) → HasOneEnd program (λ p. EvalOf p launch)

@@ -73,7 +73,7 @@ module _ (p : PlainProgram) (output : PlainTy) (asks : Asks) (text : List ℕ) (
     long = blank_lengths (list_lengths g.bases output) ∙ sym (lengths g.bases output (source_value p (world_given g)) is.laid_out.elements value_typed)
 
     admits : Admits p output asks (world_given g) g.launch (begun p output (world_given g))
-    admits = record { world = ok.world; flat = ok.flat; launch = ok.launch; sizes = refl; inputs = refl; outputs = long }
+    admits = record { world = ok.world; launch = ok.launch; sizes = refl; inputs = refl; outputs = long }
 
     module _ (one : OneKernel) (k : Kernel) (read : IsKernelText lift text k) where
       same : is.kernel ≡ k

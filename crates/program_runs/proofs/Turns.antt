@@ -25,7 +25,6 @@ use Rattle.lift_tree.specs.Values.{Value}
 use Rattle.lift_tree.specs.Typing.{ValuesHaveTypes, declared_by}
 use Rattle.size_arith.specs.declared.names.Name.{Name}
 use Rattle.size_arith.specs.Ranges.{sizes_at}
-use Rattle.printed_form.specs.Programs.{IsLaunchOf}
 use Rattle.lowered_tree.specs.Kinds.{asks_of}
 use Rattle.ndrange_device.specs.Outcomes.{EndsUnder, FaultsUnder, capped}
 use Rattle.sequence_runs.specs.Runs.{Stage}
@@ -35,7 +34,7 @@ use Rattle.program_runs.proofs.LaidOut.{elements_once, small_once}
 use Rattle.launch_file.specs.ResultLine.{result_line}
 use Rattle.launch_file.specs.Stages.{Count, GivenInOrder}
 use Rattle.program_source.specs.Program.{source_value}
-use Rattle.compilation.specs.Meets.{CanBeLaidOut, asks_with}
+use Rattle.compilation.specs.Meets.{CanBeLaidOut}
 use Rattle.compilation.specs.Sequence.{IsSequenceFor, Outline, outline_in, part_of}
 use Rattle.program_runs.specs.Sequences.{AreAdmissibleFor, AreAdmissibleLaunches, AreRunInTurn, KernelRun, RunInTurn, begun_from, launch_at, world_in}
 use Rattle.program_runs.proofs.Running.{start_once}
@@ -67,14 +66,14 @@ taken_at [] n x at = absurd (cc)
 taken_at (y ∷ xs) zero x at = ap (λ z. z ∷ []) (cc)
 taken_at (y ∷ xs) (suc n) x at = ap (λ zs. y ∷ zs) (taken_at xs n x at)
 
-launched_at : (p : PlainProgram) (local : Option ℕ) (bases : List ℕ) (os : List Outline) (cs : List Count) (n : ℕ) (o : Outline) (c : Count) → AreAdmissibleLaunches p local bases os cs → slice_get os n ≡ Some o → slice_get cs n ≡ Some c → IsAdmissibleLaunch (declared_by p).names (asks_with o.alone local) bases c.global c.local
-launched_at p local bases [] cs n o c h at with = absurd (cc)
-launched_at p local bases (x ∷ os) [] n o c h at with = absurd h
-launched_at p local bases (x ∷ os) (y ∷ cs) zero o c h at with =
+launched_at : (p : PlainProgram) (bases : List ℕ) (os : List Outline) (cs : List Count) (n : ℕ) (o : Outline) (c : Count) → AreAdmissibleLaunches p bases os cs → slice_get os n ≡ Some o → slice_get cs n ≡ Some c → IsAdmissibleLaunch (declared_by p).names o.asks bases c.global c.local
+launched_at p bases [] cs n o c h at with = absurd (cc)
+launched_at p bases (x ∷ os) [] n o c h at with = absurd h
+launched_at p bases (x ∷ os) (y ∷ cs) zero o c h at with =
     let same : x ≡ o = cc in
     let given : y ≡ c = cc in
-    subst (λ (z : Count). IsAdmissibleLaunch (declared_by p).names (asks_with o.alone local) bases z.global z.local) given (subst (λ (z : Outline). IsAdmissibleLaunch (declared_by p).names (asks_with z.alone local) bases y.global y.local) same h.0)
-launched_at p local bases (x ∷ os) (y ∷ cs) (suc n) o c h at with = launched_at p local bases os cs n o c h.1 at with
+    subst (λ (z : Count). IsAdmissibleLaunch (declared_by p).names o.asks bases z.global z.local) given (subst (λ (z : Outline). IsAdmissibleLaunch (declared_by p).names z.asks bases y.global y.local) same h.0)
+launched_at p bases (x ∷ os) (y ∷ cs) (suc n) o c h at with = launched_at p bases os cs n o c h.1 at with
 
 pub got : {A : Type 0} (xs : List A) (i n : ℕ) (x : A) → i ≡ n → n < length xs → x ≡ get_or xs i x → slice_get xs n ≡ Some x
 got xs i n x same lt is = there xs n lt (is ∙ ap (λ (k : ℕ). get_or xs k x) same)
@@ -122,7 +121,7 @@ sum_more f rs r = let e = sum_by-append f rs (r ∷ []) in let one : sum_by f (r
 capped_more : (a b c s : ℕ) → a ≡ capped b → s ≡ b + c → capped (a + c) ≡ capped s
 capped_more a b c s first all = omega (arith, first, all)
 
-module _ (p : PlainProgram) (output : PlainTy) (local : Option ℕ) (outlines : List Outline) (text : List ℕ) (g : GivenInOrder) (xs : List Kernel) (first : List (List ℕ)) where
+module _ (p : PlainProgram) (output : PlainTy) (outlines : List Outline) (text : List ℕ) (g : GivenInOrder) (xs : List Kernel) (first : List (List ℕ)) where
   -- the world of all
   abbrev w : World
   w = world_in g.shared
@@ -131,7 +130,7 @@ module _ (p : PlainProgram) (output : PlainTy) (local : Option ℕ) (outlines : 
   pub record SoFar (n : ℕ) (ins left : List (List ℕ)) (events releases : ℕ) : Type 0 where
     pub run : AreRunInTurn g.shared first (take n xs) (take n outlines) (take n g.counts) events releases
     pub there : behind first run.runs ≡ ins ++ left
-    pub keep : (t : IsSequenceFor p output local outlines text) → KeepOn local g.shared.bases output (source_value p w) (drop n t.kernels) (ins ++ left)
+    pub keep : (t : IsSequenceFor p output outlines text) → KeepOn t.local g.shared.bases output (source_value p w) (drop n t.kernels) (ins ++ left)
     pub last : 0 < n → length xs ≤ n → left ≡ lists_of output (source_value p w)
 
   -- the same at equal things
@@ -151,14 +150,14 @@ module _ (p : PlainProgram) (output : PlainTy) (local : Option ℕ) (outlines : 
 
   -- ---- counts of kernels
 
-  as_many_launches : (bases : List ℕ) (os : List Outline) (cs : List Count) → AreAdmissibleLaunches p local bases os cs → length cs ≡ length os
+  as_many_launches : (bases : List ℕ) (os : List Outline) (cs : List Count) → AreAdmissibleLaunches p bases os cs → length cs ≡ length os
   as_many_launches bases [] [] h = refl
   as_many_launches bases [] (c ∷ cs) h = absurd h
   as_many_launches bases (o ∷ os) [] h = absurd h
   as_many_launches bases (o ∷ os) (c ∷ cs) h = let e = as_many_launches bases os cs h.1 in omega (arith, e)
 
-  module _ (one : TextsAreOfOneSequence) (read : IsSequenceText text xs) (ok : AreAdmissibleFor p local outlines g) where
-    module _ (t : IsSequenceFor p output local outlines text) where
+  module _ (one : TextsAreOfOneSequence) (read : IsSequenceText text xs) (ok : AreAdmissibleFor p outlines g) where
+    module _ (t : IsSequenceFor p output outlines text) where
       kernels_are : map (λ (k : Stage). k.kernel) t.kernels ≡ xs
       kernels_are = one text (map (λ (k : Stage). k.kernel) t.kernels) xs t.written read
 
@@ -166,9 +165,9 @@ module _ (p : PlainProgram) (output : PlainTy) (local : Option ℕ) (outlines : 
       as_many_kernels = sym (length-map t.kernels (λ (k : Stage). k.kernel)) ∙ ap length kernels_are
 
       as_many_outlines : length outlines ≡ length xs
-      as_many_outlines = sym (ap length t.outlined) ∙ length-map t.kernels (λ (k : Stage). outline_in (part_of k)) ∙ as_many_kernels
+      as_many_outlines = sym (ap length t.outlined) ∙ length-map t.kernels (λ (k : Stage). outline_in t.local (part_of k)) ∙ as_many_kernels
 
-    module _ (bars : ∥ IsSequenceFor p output local outlines text ∥₁) where
+    module _ (bars : ∥ IsSequenceFor p output outlines text ∥₁) where
       pub outlines_count : length outlines ≡ length xs
       outlines_count = ∥∥₁_elim bars (Prim.hlevel props) as_many_outlines
 
@@ -180,7 +179,7 @@ module _ (p : PlainProgram) (output : PlainTy) (local : Option ℕ) (outlines : 
       none_so_far is = record {
         run = record { runs = []; of_kernels = refl; of_outputs = refl; of_launches = refl; run = tt; counted = refl; released = refl };
         there = sym (append-nil first);
-        keep = λ t. subst (KeepOn local g.shared.bases output (source_value p w) t.kernels) (sym is ∙ sym (append-nil first)) (λ rs begins runs. t.keep w rs ok.world begins runs);
+        keep = λ t. subst (KeepOn t.local g.shared.bases output (source_value p w) t.kernels) (sym is ∙ sym (append-nil first)) (λ rs begins runs. t.keep w rs ok.world begins runs);
         last = λ some. absurd (omega (arith, some));
       }
 
@@ -199,32 +198,31 @@ module _ (p : PlainProgram) (output : PlainTy) (local : Option ℕ) (outlines : 
         abbrev l : Launch
         l = launch_at g.shared.sizes c
 
-        its : IsAdmissibleLaunch (declared_by p).names (asks_with o.alone local) g.shared.bases c.global c.local
-        its = launched_at p local g.shared.bases outlines g.counts n o c ok.launches at_o at_c
+        its : IsAdmissibleLaunch (declared_by p).names o.asks g.shared.bases c.global c.local
+        its = launched_at p g.shared.bases outlines g.counts n o c ok.launches at_o at_c
 
-        module _ (t : IsSequenceFor p output local outlines text) where
+        module _ (t : IsSequenceFor p output outlines text) where
           own : (k : Stage) × (slice_get t.kernels n ≡ Some k) × (k.kernel ≡ x)
           own = made_at (λ (k : Stage). k.kernel) t.kernels xs n x (kernels_are t) at_x
 
-          outline_is : outline_in (part_of own.0) ≡ o
+          outline_is : outline_in t.local (part_of own.0) ≡ o
           outline_is =
-              let here = mapped_at (λ (k : Stage). outline_in (part_of k)) t.kernels outlines n own.0 t.outlined own.1 in
-              same_Some (outline_in (part_of own.0)) o (sym here ∙ at_o)
+              let here = mapped_at (λ (k : Stage). outline_in t.local (part_of k)) t.kernels outlines n own.0 t.outlined own.1 in
+              same_Some (outline_in t.local (part_of own.0)) o (sym here ∙ at_o)
 
           names_are : own.0.declared.names ≡ (declared_by p).names
           names_are = every_at (λ (k : Stage). k.declared.names ≡ (declared_by p).names) t.kernels n own.0 t.names own.1
 
-          launch_is : IsLaunchOf own.0.declared (asks_of local own.0.tree) g.shared.bases l
-          launch_is = record {
-            flat = record { one_row = refl; one_local_row = refl };
-            admissible =
-                subst (λ (z : Outline). IsAdmissibleLaunch own.0.declared.names (asks_with z.alone local) g.shared.bases c.global c.local) (sym outline_is)
-                (subst (λ (z : List Name). IsAdmissibleLaunch z (asks_with o.alone local) g.shared.bases c.global c.local) (sym names_are) its);
-            sizes = ok.world.sizes ∙ ap (λ (z : List Name). sizes_at z g.shared.bases) (sym names_are);
-          }
+          launch_is : IsAdmissibleLaunch own.0.declared.names (asks_of t.local own.0.tree) g.shared.bases c.global c.local
+          launch_is =
+              subst (λ (z : Outline). IsAdmissibleLaunch own.0.declared.names z.asks g.shared.bases c.global c.local) (sym outline_is)
+              (subst (λ (z : List Name). IsAdmissibleLaunch z o.asks g.shared.bases c.global c.local) (sym names_are) its)
 
-          keep_here : KeepOn local g.shared.bases output (source_value p w) (own.0 ∷ drop (suc n) t.kernels) (ins ++ left)
-          keep_here = subst (λ (z : List Stage). KeepOn local g.shared.bases output (source_value p w) z (ins ++ left)) (dropped_at t.kernels n own.0 own.1) (s.keep t)
+          sizes_are : g.shared.sizes ≡ sizes_at own.0.declared.names g.shared.bases
+          sizes_are = ok.world.sizes ∙ ap (λ (z : List Name). sizes_at z g.shared.bases) (sym names_are)
+
+          keep_here : KeepOn t.local g.shared.bases output (source_value p w) (own.0 ∷ drop (suc n) t.kernels) (ins ++ left)
+          keep_here = subst (λ (z : List Stage). KeepOn t.local g.shared.bases output (source_value p w) z (ins ++ left)) (dropped_at t.kernels n own.0 own.1) (s.keep t)
 
           cells_are : begun_from (ins ++ left) g.shared.bases (type_in own.0.types) ≡ begun_from (ins ++ left) g.shared.bases o.output
           cells_are = ap (λ (z : Outline). begun_from (ins ++ left) g.shared.bases z.output) outline_is
@@ -232,27 +230,27 @@ module _ (p : PlainProgram) (output : PlainTy) (local : Option ℕ) (outlines : 
           starts_so : MayStart x l (begun_from (ins ++ left) g.shared.bases o.output)
           starts_so = subst (λ (z : Cells). MayStart x l z) cells_are
               (subst (λ (k : Kernel). MayStart k l (begun_from (ins ++ left) g.shared.bases (type_in own.0.types))) own.2
-              (starts_next local g.shared.bases output (source_value p w) own.0 (drop (suc n) t.kernels) (ins ++ left) keep_here l launch_is))
+              (starts_next t.local g.shared.bases output (source_value p w) own.0 (drop (suc n) t.kernels) (ins ++ left) keep_here l launch_is sizes_are))
 
           clean_so : (schedule : Schedule) (kind : FaultKind) (event item : ℕ) (cell : Option shown.Cell) → FaultsUnder schedule x l (begun_from (ins ++ left) g.shared.bases o.output) kind event item cell → ⊥
           clean_so = subst (λ (z : Cells). (schedule : Schedule) (kind : FaultKind) (event item : ℕ) (cell : Option shown.Cell) → FaultsUnder schedule x l z kind event item cell → ⊥) cells_are
               (subst (λ (k : Kernel). (schedule : Schedule) (kind : FaultKind) (event item : ℕ) (cell : Option shown.Cell) → FaultsUnder schedule k l (begun_from (ins ++ left) g.shared.bases (type_in own.0.types)) kind event item cell → ⊥) own.2
-              (clean_next local g.shared.bases output (source_value p w) own.0 (drop (suc n) t.kernels) (ins ++ left) keep_here l launch_is))
+              (clean_next t.local g.shared.bases output (source_value p w) own.0 (drop (suc n) t.kernels) (ins ++ left) keep_here l launch_is sizes_are))
 
           module _ (rows : List (List ℕ)) (more freed : ℕ) (e : EndsUnder g.shared.schedule x l (begun_from (ins ++ left) g.shared.bases o.output) rows more freed) where
             ends : EndsUnder g.shared.schedule own.0.kernel l (begun_from (ins ++ left) g.shared.bases (type_in own.0.types)) rows more freed
             ends = subst (λ (k : Kernel). EndsUnder g.shared.schedule k l (begun_from (ins ++ left) g.shared.bases (type_in own.0.types)) rows more freed) (sym own.2)
                 (subst (λ (z : Cells). EndsUnder g.shared.schedule x l z rows more freed) (sym cells_are) e)
 
-            keep_then : InputsStay → is_kernel x ≡ true → KeepOn local g.shared.bases output (source_value p w) (drop (suc n) t.kernels) ((ins ++ left) ++ rows)
+            keep_then : InputsStay → is_kernel x ≡ true → KeepOn t.local g.shared.bases output (source_value p w) (drop (suc n) t.kernels) ((ins ++ left) ++ rows)
             keep_then stay grammar =
-                keeps_next local g.shared.bases output (source_value p w) own.0 (drop (suc n) t.kernels) (ins ++ left) keep_here l launch_is g.shared.schedule rows more freed ends stay
+                keeps_next t.local g.shared.bases output (source_value p w) own.0 (drop (suc n) t.kernels) (ins ++ left) keep_here l launch_is sizes_are g.shared.schedule rows more freed ends stay
                 (ap is_kernel own.2 ∙ grammar)
 
             last_then : length xs ≤ suc n → rows ≡ lists_of output (source_value p w)
             last_then whole =
                 let e = as_many_kernels t in
-                left_at_last local g.shared.bases output (source_value p w) own.0 (drop (suc n) t.kernels) (ins ++ left) keep_here l launch_is g.shared.schedule rows more freed ends
+                left_at_last t.local g.shared.bases output (source_value p w) own.0 (drop (suc n) t.kernels) (ins ++ left) keep_here l launch_is sizes_are g.shared.schedule rows more freed ends
                 (drop_all (suc n) t.kernels (omega (arith, e, whole)))
 
         next_starts : MayStart x l (begun_from (ins ++ left) g.shared.bases o.output)
@@ -286,7 +284,7 @@ module _ (p : PlainProgram) (output : PlainTy) (local : Option ℕ) (outlines : 
               last = λ some whole. ∥∥₁_elim bars (Prim.hlevel props) (λ t. last_then t rows more freed e whole);
             }
 
-        laid_out : IsSequenceFor p output local outlines text → CanBeLaidOut (declared_by p).names o.output
+        laid_out : IsSequenceFor p output outlines text → CanBeLaidOut (declared_by p).names o.output
         laid_out t = every_at (λ (z : Outline). CanBeLaidOut (declared_by p).names z.output) outlines n o t.laid_out at_o
 
         pub next : Next n x o c ins left events releases
@@ -305,7 +303,7 @@ module _ (p : PlainProgram) (output : PlainTy) (local : Option ℕ) (outlines : 
       every_last P [] o h = h.0
       every_last P (z ∷ front) o h = every_last P front o h.1
 
-      output_laid_out : IsSequenceFor p output local outlines text → CanBeLaidOut (declared_by p).names output
+      output_laid_out : IsSequenceFor p output outlines text → CanBeLaidOut (declared_by p).names output
       output_laid_out t =
           subst (λ (a : PlainTy). CanBeLaidOut (declared_by p).names a) t.last.3
           (every_last (λ (z : Outline). CanBeLaidOut (declared_by p).names z.output) t.last.0 t.last.1 (subst (Every (λ (z : Outline). CanBeLaidOut (declared_by p).names z.output)) t.last.2 t.laid_out))

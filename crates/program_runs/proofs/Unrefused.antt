@@ -1,16 +1,17 @@
 -- No stage refuses the demo, and its launch is admissible.
-use Rattle.std.proofs.Common.{◌≡◌, ◌∙◌, ap, ap₂, sym, subst, refl, inl, inr, Bool, ℕ, List, [], ◌∷◌, Option, None, false, Ok, Err}
+use Rattle.std.proofs.Common.{◌≡◌, ◌∙◌, ap, ap₂, sym, subst, refl, inl, inr, ℕ, List, [], ◌∷◌, Option, None, Ok, Err}
 use Rattle.lift_tree.specs.Launches.{Asks}
 use Rattle.lift_tree.specs.Programs.{PlainProgram}
 use Rattle.lift_tree.specs.Types.{PlainTy}
-use Rattle.lowered_tree.specs.Kinds.{is_task}
+use Rattle.lowered_tree.specs.Kinds.{asks_of}
 use Rattle.lowered_tree.specs.Nest.{IsLegalWith, LegalWithoutFault}
 use Rattle.strategy_script.specs.LocalSize.{local_fixed}
 use Rattle.strategy_script.specs.Scripts.{PlainScript}
+use Rattle.strategy_script.specs.Steps.{State}
 use Rattle.fault_lines.specs.Failure.{source_failed}
 use Rattle.fault_lines.specs.declared.refusal.Refusal.{Refusal}
 use Rattle.fault_lines.specs.declared.refusal.Refusal.TheVariants as told
-use Rattle.demo_program.specs.Accepted.{DemoIsAccepted, demo_program}
+use Rattle.demo_program.specs.Accepted.{DemoIsAccepted, demo_asks, demo_program}
 use Rattle.demo_program.specs.Admitted.{DemosMayRun}
 use Rattle.demo_program.specs.Data.{demo_given}
 use Rattle.demo_program.specs.Texts.{program_text, script_text}
@@ -21,7 +22,6 @@ use Rattle.stages.proofs.One.{ok_same}
 use Rattle.compilation.specs.Compiled.{IsCompiled}
 use Rattle.compilation.specs.Laws.{CompilationEndsOnce}
 use Rattle.compilation.specs.Legal.{LegalOf}
-use Rattle.compilation.specs.Meets.{asks_with}
 use Rattle.program_runs.specs.Runs.{IsAdmissibleFor}
 use Rattle.program_runs.specs.Table.{StagesEndOnce}
 use Rattle.program_runs.specs.declared.command.Command.TheVariants.{Compile}
@@ -33,7 +33,7 @@ no_size d = ap (λ (s : PlainScript). s.local) d.script.found
 -- the last term is compiled
 compiles : LegalWithoutFault → (d : DemoIsAccepted) → LegalOf demo_program script_text (Ok d.last)
 compiles law d =
-    let legal = subst (λ (o : Option ℕ). IsLegalWith o d.last.tree d.last.types) (no_size d) ((law None d.last.tree d.last.types).0 d.legal) in
+    let legal = subst (λ (o : Option (ℕ × ℕ)). IsLegalWith o d.last.tree d.last.types) (no_size d) ((law None d.last.tree d.last.types).0 d.legal) in
     (_, (d.types, d.typed, (record { local = None; steps = d.steps }, (d.script, d.few), d.made)), (d.last, record { front = d.front; is = refl }, (tt, legal, (tt, d.fits, refl))))
 
 -- what stops the demo's compilation would stop its text
@@ -52,10 +52,10 @@ admitted once law d may p output asks text seed c =
     let same : demo_program ≡ p = c.read.only demo_program d.read in
     let legal : LegalOf demo_program script_text (Ok c.last) = subst (λ q. LegalOf q script_text (Ok c.last)) (sym same) c.legal in
     let last : d.last ≡ c.last = ok_same _ _ _ refl (once demo_program script_text (Ok d.last) (Ok c.last) (compiles law d) legal) in
-    let parallel : asks_with false None ≡ asks = ap₂ (λ (a : Bool) (o : Option ℕ). asks_with a o) (sym d.parallel ∙ ap (λ s. is_task s.tree) last) (no_size d) ∙ c.asked in
+    let asked : demo_asks ≡ asks = sym d.asked ∙ ap₂ (λ (o : Option (ℕ × ℕ)) (s : State). asks_of o s.tree) (no_size d) last ∙ c.asked in
     let m = may seed in
-    subst (λ (a : Asks). IsAdmissibleFor p a (demo_given seed)) parallel
-    (subst (λ q. IsAdmissibleFor q (asks_with false None) (demo_given seed)) same (record { world = m.world; flat = m.flat; launch = m.launch }))
+    subst (λ (a : Asks). IsAdmissibleFor p a (demo_given seed)) asked
+    (subst (λ q. IsAdmissibleFor q demo_asks (demo_given seed)) same (record { world = m.world; launch = m.launch }))
 
 -- ---- the texts as they are handed over
 

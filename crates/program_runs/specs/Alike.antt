@@ -4,8 +4,7 @@ use Rattle.kernel_tree.specs.Alike.{GoesAlike}
 use Rattle.kernel_tree.specs.Code.{Kernel}
 use Rattle.kernel_tree.specs.Device.{IsStart, State, device_of}
 use Rattle.kernel_tree.specs.Launch.{Cells, Launch}
-use Rattle.launch_file.specs.LaunchFile.{Given, IsLaunchFile}
-use Rattle.launch_file.specs.declared.file.Ask.TheVariants.{Run}
+use Rattle.launch_file.specs.LaunchFile.{Given, IsLaunchFile, Run}
 use Rattle.lift_tree.specs.Annotations.{Annotation}
 use Rattle.lift_tree.specs.Launches.{Asks}
 use Rattle.lift_tree.specs.Meaning.{World}
@@ -30,10 +29,10 @@ use Rattle.program_runs.specs.Started.{AreRunLines}
 -- and, with the outputs of those before it as inputs, for each of several in order
 abbrev pub PrintedKernelsGoAlike : Type 0
 PrintedKernelsGoAlike =
-    (d : Declared) (local : Option ℕ) (t : Tree) (n : Annotation) (w : World) (l : Launch)
+    (d : Declared) (local : Option (ℕ × ℕ)) (t : Tree) (n : Annotation) (w : World) (l : Launch)
     (k m : Kernel) (c : Cells) (s r : State)
     → IsLegalTerm d t n → CopiesArrays t n → IsAdmissible d w
-    → IsLaunchOf d (asks_of local t) w.bases l → AreBuffersOf d w t n c
+    → IsLaunchOf d (asks_of local t) w.bases t n l → AreBuffersOf d w t n c
     → PrintsBy (printer_for t) d local w.bases t n l k
     → PrintsBy (printer_for t) d local w.bases t n l m
     → IsStart k l c s → IsStart m l c r → SameContents l s r
@@ -43,11 +42,10 @@ PrintedKernelsGoAlike =
 pub record AreLinesOf (program launch : List ℕ) (traced : Bool) (text lines : List ℕ) : Type 0 where
   pub source : PlainProgram
   pub output : PlainTy
-  pub task : Bool
-  pub local : Option ℕ
+  pub asks : Asks
   pub read : IsRead program source
   pub given : Given
-  pub launch_file : IsLaunchFile source (Run task local) launch given
+  pub launch_file : IsLaunchFile source (Run asks) launch given
   pub run : AreLinesOfText source output text given traced lines
 
 -- the lines of a run are those of every text of the program's kernel, whatever stands in its

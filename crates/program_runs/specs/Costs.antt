@@ -9,15 +9,14 @@ use Rattle.kernel_tree.specs.Device.{IsRun, IsStart, IsStuck, State, device_of, 
 use Rattle.kernel_tree.specs.Histories.{is_release}
 use Rattle.kernel_tree.specs.KernelText.{IsKernelText, lift}
 use Rattle.kernel_tree.specs.Launch.{Cells, Launch, first_item, group_count, ids_of, item_count}
-use Rattle.launch_file.specs.LaunchFile.{Given, IsLaunchFile}
-use Rattle.launch_file.specs.declared.file.Ask.TheVariants.{Cost}
+use Rattle.launch_file.specs.LaunchFile.{Cost, Given, IsLaunchFile}
 use Rattle.lift_ir.specs.AtLaunch.{length_at}
 use Rattle.lift_tree.specs.Launches.{Asks}
 use Rattle.lift_tree.specs.Meaning.{World}
 use Rattle.lift_tree.specs.Programs.{PlainProgram}
 use Rattle.lift_tree.specs.Types.{PlainTy}
 use Rattle.lift_tree.specs.Typing.{Declared, HasOutput, declared_by}
-use Rattle.lowered_tree.specs.Kinds.{is_task}
+use Rattle.lowered_tree.specs.Kinds.{asks_of}
 use Rattle.nest_premises.specs.Printable.{printer_for}
 use Rattle.printed_form.specs.Programs.{lowered_root}
 use Rattle.strategy_script.specs.LocalSize.{local_fixed}
@@ -43,7 +42,7 @@ releases_at d t fence bases l group =
     (lowered_root d.names t.tree t.types)
 
 -- The lines tell the traffic of a typed term at a launch, with the barriers that it needs.
-pub record TellTraffic (d : Declared) (local : Option ℕ) (t : TermState) (bases : List ℕ)
+pub record TellTraffic (d : Declared) (local : Option (ℕ × ℕ)) (t : TermState) (bases : List ℕ)
     (l : Launch) (items : Bool) (lines : List ℕ) : Type 0 where
   pub fence : ℕ → Fencing
   pub needed : AreNeededBy (printer_for t.tree) d local fence t.tree t.types
@@ -60,7 +59,7 @@ pub record AreCostLines (program script launch : List ℕ) (items : Bool)
   pub last : TermState
   pub legal : LegalOf source script (Ok last)
   pub given : Given
-  pub launch_file : IsLaunchFile source (Cost (is_task last.tree) (local_fixed script)) launch given
+  pub launch_file : IsLaunchFile source (Cost (asks_of (local_fixed script) last.tree)) launch given
   pub told : TellTraffic (declared_by source) (local_fixed script) last given.bases given.launch
       items lines
 
@@ -85,7 +84,7 @@ pub record AreCostsOf (program launch : List ℕ) (items : Bool)
   pub read : IsRead program source
   pub typed : HasOutput source source.body output
   pub given : Given
-  pub launch_file : IsLaunchFile source (Cost asks.alone asks.local) launch given
+  pub launch_file : IsLaunchFile source (Cost asks) launch given
   pub kernel : Kernel
   pub spelled : IsKernelText lift text kernel
   pub traffic : ℕ → ItemTraffic

@@ -5,7 +5,7 @@ use Rattle.kernel_tree.specs.declared.events.Seen.{Seen}
 use Rattle.kernel_tree.specs.Code.{Kernel}
 use Rattle.kernel_tree.specs.KernelText.{IsKernelText, lift}
 use Rattle.kernel_tree.specs.Device.{device_of, start_state}
-use Rattle.kernel_tree.specs.Launch.{Cells, IsFlat, Launch}
+use Rattle.kernel_tree.specs.Launch.{Cells, Launch}
 use Rattle.ndrange_device.specs.Outcomes.{EndsUnder, sights}
 use Rattle.lift_tree.specs.Launches.{Asks, IsAdmissibleLaunch, buffers_of, lists_of}
 use Rattle.lift_tree.specs.Meaning.{World}
@@ -30,13 +30,11 @@ begun p output w = record {
   rest = 0;
 }
 
--- the sizes, the inputs and the launch that are given are admissible for the program; the launch is
--- one row
+-- the sizes, the inputs and the launch that are given are admissible for the program
 pub record IsAdmissibleFor (p : PlainProgram) (asks : Asks) (g : Given) : Type 0 where
   pub world : IsAdmissible (declared_by p) (world_given g)
-  pub flat : IsFlat g.launch
   pub launch : IsAdmissibleLaunch
-      (declared_by p).names asks g.bases g.launch.global.0 g.launch.local.0
+      (declared_by p).names asks g.bases g.launch.global g.launch.local
 
 -- the kernel's run under the schedule, at the launch and on the inputs that are given leaves the
 -- source's value, and has so many events, so many of them releases

@@ -1,8 +1,8 @@
 -- The runs of kernels in order at what a launch file gives, and what is told of them.
-use Rattle.std.specs.Prelude.{◌≡◌, ◌++◌, ℕ, List, [], ◌∷◌, Option, Some, map, replicate, sum_by}
+use Rattle.std.specs.Prelude.{◌≡◌, ◌++◌, ℕ, List, [], ◌∷◌, Some, map, replicate, sum_by}
 use Rattle.kernel_spelling.specs.SequenceText.{IsSequenceText}
 use Rattle.kernel_tree.specs.Code.{Kernel}
-use Rattle.kernel_tree.specs.Launch.{Cells, Launch, in_a_row}
+use Rattle.kernel_tree.specs.Launch.{Cells, Launch}
 use Rattle.kernel_tree.specs.Schedule.{Schedule}
 use Rattle.ndrange_device.specs.Outcomes.{EndsUnder, capped}
 use Rattle.lift_tree.specs.Launches.{IsAdmissibleLaunch, buffers_of}
@@ -14,31 +14,30 @@ use Rattle.value_lists.specs.Lists.{list_lengths}
 use Rattle.launch_file.specs.ResultLine.{result_line}
 use Rattle.launch_file.specs.Stages.{Count, GivenInOrder, Shared}
 use Rattle.program_source.specs.Program.{source_value}
-use Rattle.compilation.specs.Meets.{asks_with}
 use Rattle.compilation.specs.Sequence.{Outline}
 
 -- the sizes and the inputs that all kernels share
 abbrev pub world_in : Shared → World
 world_in s = record { bases = s.bases; sizes = s.sizes; inputs = s.inputs }
 
--- a kernel's launch: its work-items in a row, at these sizes
+-- a kernel's launch: its work-items, at these sizes
 abbrev pub launch_at : (sizes : List ℕ) → Count → Launch
-launch_at sizes c = in_a_row c.global c.local sizes
+launch_at sizes c = record { global = c.global; local = c.local; sizes = sizes }
 
 -- one launch for each kernel, which is admissible for the program
-abbrev pub AreAdmissibleLaunches : PlainProgram → (local : Option ℕ) → (bases : List ℕ)
-    → List Outline → List Count → Type 0
-AreAdmissibleLaunches p local bases [] [] = Unit {0}
-AreAdmissibleLaunches p local bases (o ∷ os) (c ∷ cs) =
-    IsAdmissibleLaunch (declared_by p).names (asks_with o.alone local) bases c.global c.local
-    × AreAdmissibleLaunches p local bases os cs
-AreAdmissibleLaunches p local bases _ _ = ⊥
+abbrev pub AreAdmissibleLaunches : PlainProgram → (bases : List ℕ) → List Outline → List Count
+    → Type 0
+AreAdmissibleLaunches p bases [] [] = Unit {0}
+AreAdmissibleLaunches p bases (o ∷ os) (c ∷ cs) =
+    IsAdmissibleLaunch (declared_by p).names o.asks bases c.global c.local
+    × AreAdmissibleLaunches p bases os cs
+AreAdmissibleLaunches p bases _ _ = ⊥
 
 -- what is given to the kernels in order is admissible for the program
-pub record AreAdmissibleFor (p : PlainProgram) (local : Option ℕ) (outlines : List Outline)
+pub record AreAdmissibleFor (p : PlainProgram) (outlines : List Outline)
     (g : GivenInOrder) : Type 0 where
   pub world : IsAdmissible (declared_by p) (world_in g.shared)
-  pub launches : AreAdmissibleLaunches p local g.shared.bases outlines g.counts
+  pub launches : AreAdmissibleLaunches p g.shared.bases outlines g.counts
 
 -- A kernel's run: the kernel, the type of its output, and its launch; and what the run leaves in
 -- the output's buffers, and how many events it has, so many of them releases.

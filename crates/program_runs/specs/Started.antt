@@ -1,14 +1,13 @@
 -- What a run and an evaluation are started from.
-use Rattle.std.specs.Prelude.{◌≡◌, ℕ, List, Option, None, Bool, map, Result, Ok, Err}
+use Rattle.std.specs.Prelude.{◌≡◌, ℕ, List, None, Bool, map, Result, Ok, Err}
 use Rattle.lift_tree.specs.Programs.{PlainProgram}
 use Rattle.lift_tree.specs.Types.{PlainTy}
-use Rattle.lowered_tree.specs.Kinds.{is_task}
+use Rattle.lift_tree.specs.Launches.{Asks}
+use Rattle.lowered_tree.specs.Kinds.{asks_of}
 use Rattle.launch_file.specs.Judged.{Refuses}
-use Rattle.launch_file.specs.LaunchFile.{Given, IsLaunchFile}
+use Rattle.launch_file.specs.LaunchFile.{Given, IsLaunchFile, PlainAsk, Run, Eval, Cost}
 use Rattle.launch_file.specs.ResultLine.{result_line}
 use Rattle.launch_file.specs.Stages.{GivenInOrder, IsStagesFile, RefusesStages}
-use Rattle.launch_file.specs.declared.file.Ask.{Ask}
-use Rattle.launch_file.specs.declared.file.Ask.TheVariants.{Cost, Eval, Run}
 use Rattle.launch_file.specs.declared.refusal.LaunchNo.{LaunchNo}
 use Rattle.fault_lines.specs.Failure.{Failure, launch_failed, source_failed}
 use Rattle.program_source.specs.Program.{IsRead, TypesOf, source_value}
@@ -16,25 +15,24 @@ use Rattle.stages.specs.Stages.{As, Then}
 use Rattle.strategy_script.specs.LocalSize.{local_fixed}
 use Rattle.compilation.specs.Compiled.{IsCompiled}
 use Rattle.compilation.specs.Legal.{LegalOf}
-use Rattle.compilation.specs.Meets.{asks_with}
 use Rattle.compilation.specs.Sequence.{IsCompiledSequence, Outline, SequenceOf, outline_in}
 use Rattle.program_runs.specs.Runs.{AreLinesOfText, world_given}
 use Rattle.program_runs.specs.Sequences.{IsSequenceLine}
 
 -- what a launch file gives a program, or the first check that it fails
-abbrev pub LaunchOf : PlainProgram → Ask → (launch : List ℕ) → Result Given LaunchNo → Type 0
+abbrev pub LaunchOf : PlainProgram → PlainAsk → (launch : List ℕ) → Result Given LaunchNo → Type 0
 LaunchOf p ask launch (Ok given) = IsLaunchFile p ask launch given
 LaunchOf p ask launch (Err why) = Refuses p ask launch why
 
 -- what a launch file gives a compiled program, or the first stage that stops: all of compilation,
--- then the launch file, for a task where the last term has no parallel map, and for the local size
--- that the script fixes
-abbrev pub LaunchedOf : (ask : (task : Bool) → (local : Option ℕ) → Ask) → PlainProgram
-    → (script launch : List ℕ) → Result Given Failure → Type 0
+-- then the launch file, for what the last term asks of it with the local size that the script
+-- fixes
+abbrev pub LaunchedOf : (ask : Asks → PlainAsk) → PlainProgram → (script launch : List ℕ)
+    → Result Given Failure → Type 0
 LaunchedOf ask p script launch =
     Then (As source_failed (LegalOf p script))
     (λ last. As (launch_failed p)
-    (LaunchOf p (ask (is_task last.tree) (local_fixed script)) launch))
+    (LaunchOf p (ask (asks_of (local_fixed script) last.tree)) launch))
 
 -- what a run is given
 abbrev pub RunOf : PlainProgram → (script launch : List ℕ) → Result Given Failure → Type 0
@@ -49,13 +47,12 @@ abbrev pub EvalOf : PlainProgram → (launch : List ℕ) → Result Given Failur
 EvalOf p launch =
     Then (As source_failed (TypesOf p)) (λ _. As (launch_failed p) (LaunchOf p Eval launch))
 
--- how each kernel's launch is asked for: alone, where it is a task, and with the local size that
--- the script fixes
-abbrev pub asks_in_order : List Outline → (local : Option ℕ) → List Ask
-asks_in_order outlines local = map (λ (o : Outline). Run o.alone local) outlines
+-- each kernel's launch is to be as that asks for
+abbrev pub asks_in_order : List Outline → List PlainAsk
+asks_in_order outlines = map (λ (o : Outline). Run o.asks) outlines
 
 -- what a launch file gives to kernels in order, or the first check that it fails
-abbrev pub LaunchesOf : PlainProgram → List Ask → (launch : List ℕ) → Result GivenInOrder LaunchNo
+abbrev pub LaunchesOf : PlainProgram → List PlainAsk → (launch : List ℕ) → Result GivenInOrder LaunchNo
     → Type 0
 LaunchesOf p asks launch (Ok given) = IsStagesFile p asks launch given
 LaunchesOf p asks launch (Err why) = RefusesStages p asks launch why
@@ -67,7 +64,7 @@ abbrev pub RunStagesOf : PlainProgram → (script launch : List ℕ) → Result 
 RunStagesOf p script launch =
     Then (As source_failed (SequenceOf p script))
     (λ parts. As (launch_failed p)
-    (LaunchesOf p (asks_in_order (map outline_in parts) (local_fixed script)) launch))
+    (LaunchesOf p (asks_in_order (map (outline_in (local_fixed script)) parts)) launch))
 
 -- The lines are those of the run of what is read back from the text of the program's kernel: its
 -- events, where it is traced, the source's value, and the counts of that run.
@@ -75,12 +72,11 @@ pub record AreRunLines (program script launch : List ℕ) (traced : Bool)
     (lines : List ℕ) : Type 0 where
   pub source : PlainProgram
   pub output : PlainTy
-  pub task : Bool
-  pub local : Option ℕ
+  pub asks : Asks
   pub text : List ℕ
-  pub compiled : IsCompiled program script source output (asks_with task local) text
+  pub compiled : IsCompiled program script source output asks text
   pub given : Given
-  pub launch_file : IsLaunchFile source (Run task local) launch given
+  pub launch_file : IsLaunchFile source (Run asks) launch given
   pub run : AreLinesOfText source output text given traced lines
 
 -- The line is that of the value of the source expression, at the launch file's sizes and inputs.
@@ -96,10 +92,9 @@ pub record IsValueLine (program launch line : List ℕ) : Type 0 where
 pub record IsRunStagesLine (program script launch line : List ℕ) : Type 0 where
   pub source : PlainProgram
   pub output : PlainTy
-  pub local : Option ℕ
   pub outlines : List Outline
   pub text : List ℕ
-  pub compiled : IsCompiledSequence program script source output local outlines text
+  pub compiled : IsCompiledSequence program script source output outlines text
   pub given : GivenInOrder
-  pub launch_file : IsStagesFile source (asks_in_order outlines local) launch given
+  pub launch_file : IsStagesFile source (asks_in_order outlines) launch given
   pub run : IsSequenceLine source outlines text given line

@@ -1,5 +1,5 @@
 -- The commands: what each writes for the texts of its files, and the stages that stop it.
-use Rattle.std.specs.Prelude.{ℕ, zero, suc, List, [], ◌∷◌, Option, Result, Err}
+use Rattle.std.specs.Prelude.{ℕ, zero, suc, List, [], ◌∷◌, Result, Err}
 use Rattle.lift_tree.specs.Launches.{Asks}
 use Rattle.lift_tree.specs.Programs.{PlainProgram}
 use Rattle.lift_tree.specs.Types.{PlainTy}
@@ -34,9 +34,8 @@ pub record IsKernelOf (program script text : List ℕ) : Type 0 where
 pub record IsSequenceOf (program script text : List ℕ) : Type 0 where
   pub source : PlainProgram
   pub output : PlainTy
-  pub local : Option ℕ
   pub outlines : List Outline
-  pub compiled : IsCompiledSequence program script source output local outlines text
+  pub compiled : IsCompiledSequence program script source output outlines text
 
 -- what a command writes for the texts of its files
 abbrev pub Writes : Command → (texts : List (List ℕ)) → (text : List ℕ) → Type 0

@@ -9,7 +9,7 @@ ghost use Rattle.lift_tree.specs.Values.{value_of};
 ghost use Rattle.lift_tree.specs.WorkedOut.{worked_out};
 ghost use Rattle.value_lists.specs.Lists.{IsSmall, width};
 ghost use Rattle.launch_file.specs.LaunchFile.{given_by};
-ghost use Rattle.compilation.specs.Meets.{asks_with};
+ghost use Rattle.lift_tree.specs.FixedSizes.{asked};
 ghost use Rattle.program_runs.specs.Runs.{IsAdmissibleFor, begun, world_given};
 ghost use Rattle.program_runs.specs.Sequences.{begun_from};
 
@@ -65,7 +65,7 @@ pub fn input_lists(
 /// all other memory.
 pub fn begun(alloc: Global, compiled: &Compiled, file: &LaunchFile) -> Result<Cells, AllocError>
     requires { IsAdmissibleFor (program_of compiled.now.program)
-        (asks_with compiled.now.is_task compiled.now.local) (given_by file.now) }
+        (asked compiled.now.asks) (given_by file.now) }
     ensures { IfOk result (λ cells. cells ≡ begun (program_of compiled.now.program)
         (ty_of compiled.now.output) (world_given (given_by file.now))) }
 {

@@ -4,6 +4,7 @@ ghost use Rattle.fault_lines.specs.Shown.{failure_of};
 ghost use Rattle.launch_lengths.specs.Bases.{bases_of};
 ghost use Rattle.lowered_tree.specs.Kinds.{asks_of};
 ghost use Rattle.lowered_tree.specs.Named.{declared_of};
+ghost use Rattle.lift_tree.specs.Annotations.{annotation_of};
 ghost use Rattle.lift_tree.specs.Tree.{tree_of};
 ghost use Rattle.printed_form.specs.Programs.{IsLaunchOf};
 ghost use Rattle.program_source.specs.Ends.{FailsFor, IsFailedFor, OnSource};
@@ -19,6 +20,7 @@ use fault_lines::Failure;
 use kernel_tree::launches::Launch;
 use launch_file::file::{Ask, read_launch};
 use launch_lengths::laws::bases_come_back;
+use nest_premises::laws::rows_are_on_top;
 use phase_plan::planning::plan;
 use plan_traffic::laws::plans_place_needed_barriers;
 use program_source::laws::typed_programs_are_proper;
@@ -34,7 +36,9 @@ fn cost_at(
     requires arrays { HaveArrays placed.now }
     requires launch { IsLaunchOf (declared_of placed.now.spaced.mapped.lowered)
         (asks_of placed.now.spaced.mapped.local (tree_of placed.now.spaced.mapped.lowered.term))
-        (bases_of placed.now.spaced.mapped.lowered.names launch.now.sizes) launch.now }
+        (bases_of placed.now.spaced.mapped.lowered.names launch.now.sizes)
+        (tree_of placed.now.spaced.mapped.lowered.term)
+        (annotation_of placed.now.spaced.mapped.lowered.types) launch.now }
     ensures { IfOk result (λ lines. TellTraffic
         (declared_of placed.now.spaced.mapped.lowered) placed.now.spaced.mapped.local
         (lowered_state placed.now.spaced.mapped.lowered)
@@ -68,13 +72,10 @@ pub fn cost_text(
 {
     bases_come_back();
     one_end();
+    rows_are_on_top();
     typed_programs_are_proper();
     let found = place_text(alloc, program, script)?;
-    let ask = Ask::Cost {
-        task: found.is_task,
-        local: found.local,
-    };
-    match read_launch(alloc, launch, &found.program, ask) {
+    match read_launch(alloc, launch, &found.program, Ask::Cost(found.asks)) {
         Ok(file) => Ok(cost_at(alloc, &found.placed, &file.launch, items)?),
         Err(no) => Err(Failure::for_launch(found.program, no)),
     }

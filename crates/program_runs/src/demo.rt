@@ -6,7 +6,7 @@ ghost use Rattle.demo_program.specs.Data.{demo_given};
 ghost use Rattle.fault_lines.specs.Failure as failures;
 ghost use Rattle.fault_lines.specs.Shown.{failure_of};
 ghost use Rattle.program_runs.specs.Demo.{IsDemoLine, IsLineOfDemo};
-ghost use Rattle.compilation.specs.Meets.{asks_with};
+ghost use Rattle.lift_tree.specs.FixedSizes.{asked};
 ghost use Rattle.program_runs.specs.Runs.{IsAdmissibleFor};
 
 use crate::laws::one_end;
@@ -26,7 +26,7 @@ use std::alloc::{AllocError, Global};
 // traced: behind its events' lines, of which there are none, stands the demo's.
 fn seeded_line(alloc: Global, compiled: &Compiled, seed: u32) -> Result<Vec<u8>, AllocError>
     requires { IsAdmissibleFor (program_of compiled.now.program)
-        (asks_with compiled.now.is_task compiled.now.local) (demo_given seed) }
+        (asked compiled.now.asks) (demo_given seed) }
     ensures { IfOk result (λ line. IsLineOfDemo (program_of compiled.now.program)
         (ty_of compiled.now.output) compiled.now.text.items seed line.items) }
 {

@@ -1,7 +1,6 @@
 //! The value of a program's source expression, without any kernel.
 ghost use Rattle.std.specs.Prelude.{◌≡◌, None, IfErr, IfOk};
-ghost use Rattle.launch_file.specs.LaunchFile.{asks_in, given_by};
-ghost use Rattle.launch_file.specs.declared.file.Ask.TheVariants.{Eval};
+ghost use Rattle.launch_file.specs.LaunchFile.{Eval, asks_in, given_by};
 ghost use Rattle.launch_file.specs.ResultLine.{result_line};
 ghost use Rattle.lift_tree.specs.Annotations.{IsTyped};
 ghost use Rattle.lift_tree.specs.Programs.{program_of};

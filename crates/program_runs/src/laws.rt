@@ -14,6 +14,7 @@ use launch_file::laws::{
 use launch_lengths::laws::bases_come_back;
 use lift_tree::laws::terms_have_one_type;
 use nest_premises::groups::legal_terms_are_printable;
+use nest_premises::laws::rows_are_on_top;
 use program_source::laws::{sources_end_once, typed_programs_are_proper};
 use term_traffic::laws::runs_have_traffic;
 
@@ -46,6 +47,7 @@ pub fn texts_run_alike()
     ensures { TextsRunAlike }
 {
     one_kernel();
+    rows_are_on_top();
     terms_have_one_type();
     compilation_ends_once();
     printed_kernels_go_alike();
@@ -60,6 +62,7 @@ pub fn texts_have_costs()
     compilation_ends_once();
     layout();
     legal_terms_are_printable();
+    rows_are_on_top();
     runs_have_traffic();
     terms_have_one_type();
 }

@@ -15,7 +15,7 @@ ghost use Rattle.launch_file.specs.TraceLines.{trace_lines};
 ghost use Rattle.fault_lines.specs.Shown.{failure_of};
 ghost use Rattle.program_source.specs.Ends.{FailsFor, IsFailedFor, OnSource};
 ghost use Rattle.program_source.specs.Program.{source_value};
-ghost use Rattle.compilation.specs.Meets.{asks_with};
+ghost use Rattle.lift_tree.specs.FixedSizes.{asked};
 ghost use Rattle.program_runs.specs.Runs.{AreLinesOfText, IsAdmissibleFor, RunsText, world_given};
 ghost use Rattle.program_runs.specs.Started.{AreRunLines, RunOf};
 
@@ -97,7 +97,7 @@ pub(crate) fn run_back(
     traced: bool,
 ) -> Result<(Outcome, Vec<Seen>), AllocError>
     requires { IsAdmissibleFor (program_of compiled.now.program)
-        (asks_with compiled.now.is_task compiled.now.local) (given_by file.now) }
+        (asked compiled.now.asks) (given_by file.now) }
     ensures left { IfOk result (λ ran. map (λ l. l.items) ran.0.outputs.items
         ≡ lists_of (ty_of compiled.now.output)
         (source_value (program_of compiled.now.program) (world_given (given_by file.now)))) }
@@ -128,7 +128,7 @@ fn line_left(
     counts: (u64, u64),
 ) -> Result<Vec<u8>, AllocError>
     requires admissible { IsAdmissibleFor (program_of compiled.now.program)
-        (asks_with compiled.now.is_task compiled.now.local) (given_by file.now) }
+        (asked compiled.now.asks) (given_by file.now) }
     requires left { map (λ l. l.items) outs.now ≡ lists_of (ty_of compiled.now.output)
         (source_value (program_of compiled.now.program) (world_given (given_by file.now))) }
     ensures { IfOk result (λ line. line.items ≡ result_line (value_in (given_by file.now).bases
@@ -160,7 +160,7 @@ pub fn run_launch(
     trace: bool,
 ) -> Result<Vec<u8>, AllocError>
     requires { IsAdmissibleFor (program_of compiled.now.program)
-        (asks_with compiled.now.is_task compiled.now.local) (given_by file.now) }
+        (asked compiled.now.asks) (given_by file.now) }
     ensures { IfOk result (λ lines. AreLinesOfText (program_of compiled.now.program)
         (ty_of compiled.now.output) compiled.now.text.items (given_by file.now) trace lines.items) }
 {
@@ -192,11 +192,7 @@ pub fn run_text(
     one_end();
     typed_programs_are_proper();
     let compiled = compile_text(alloc, program, script)?;
-    let ask = Ask::Run {
-        task: compiled.is_task,
-        local: compiled.local,
-    };
-    match read_launch(alloc, launch, &compiled.program, ask) {
+    match read_launch(alloc, launch, &compiled.program, Ask::Run(compiled.asks)) {
         Ok(file) => Ok(run_launch(alloc, &compiled, &file, trace)?),
         Err(no) => Err(Failure::for_launch(compiled.program, no)),
     }

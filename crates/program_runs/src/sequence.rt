@@ -10,6 +10,7 @@ ghost use Rattle.lift_tree.specs.Launches.{buffers_of, lists_of};
 ghost use Rattle.lift_tree.specs.Programs.{program_of};
 ghost use Rattle.lift_tree.specs.Types.{ty_of};
 ghost use Rattle.lift_tree.specs.Typing.{declared_by};
+ghost use Rattle.launch_file.specs.LaunchFile.{ask_of};
 ghost use Rattle.launch_file.specs.StagesShown.{count_of, given_in_order, shared_of};
 ghost use Rattle.fault_lines.specs.Shown.{failure_of};
 ghost use Rattle.program_source.specs.Ends.{FailsFor, IsFailedFor, OnSource};
@@ -47,13 +48,13 @@ fn read_back(alloc: Global, compiled: &CompiledSequence) -> Result<Vec<Kernel>, 
     }
 }
 
-// The launch of so many work-items in a row, at these sizes.
+// The launch of so many work-items, at these sizes.
 fn launch_at(alloc: Global, sizes: &[u32], count: Count) -> Result<Launch, AllocError>
     ensures { IfOk result (λ l. l ≡ launch_at sizes.now (count_of count)) }
 {
     Ok(Launch {
-        global: (count.global, 1),
-        local: (count.local, 1),
+        global: count.global,
+        local: count.local,
         sizes: sizes.to_vec(alloc)?,
     })
 }
@@ -107,7 +108,7 @@ fn run_in_turn(
     inputs: Vec<Vec<u32>>,
 ) -> Result<Outcome, AllocError>
     requires read { IsSequenceText compiled.now.text.items (map kernel_of kernels.items) }
-    requires admissible { AreAdmissibleFor (program_of compiled.now.program) compiled.now.local
+    requires admissible { AreAdmissibleFor (program_of compiled.now.program)
         (map outline_of compiled.now.outlines.items)
         (record { shared = shared_of shared.now; counts = map count_of counts.now }) }
     requires inputs { map (λ l. l.items) inputs.items
@@ -148,7 +149,7 @@ pub fn run_sequence(
     compiled: &CompiledSequence,
     file: &StagesFile,
 ) -> Result<Vec<u8>, AllocError>
-    requires { AreAdmissibleFor (program_of compiled.now.program) compiled.now.local
+    requires { AreAdmissibleFor (program_of compiled.now.program)
         (map outline_of compiled.now.outlines.items) (given_in_order file.now) }
     ensures { IfOk result (λ line. IsSequenceLine (program_of compiled.now.program)
         (map outline_of compiled.now.outlines.items) compiled.now.text.items
@@ -172,20 +173,13 @@ pub fn run_sequence(
 }
 
 // How the launch of each kernel is asked for.
-fn launch_asks(
-    alloc: Global,
-    outlines: &[KernelOutline],
-    local: Option<u32>,
-) -> Result<Vec<Ask>, AllocError>
+fn launch_asks(alloc: Global, outlines: &[KernelOutline]) -> Result<Vec<Ask>, AllocError>
     ensures { IfOk result
-        (λ asks. asks.items ≡ asks_in_order (map outline_of outlines.now) local) }
+        (λ asks. map ask_of asks.items ≡ asks_in_order (map outline_of outlines.now)) }
 {
     let mut asks = Vec::new(alloc);
     for outline in outlines {
-        asks.push(Ask::Run {
-            task: outline.is_task,
-            local,
-        })?;
+        asks.push(Ask::Run(outline.asks))?;
     }
     Ok(asks)
 }
@@ -210,7 +204,7 @@ pub fn run_stages_text(
     one_end();
     typed_programs_are_proper();
     let compiled = compile_sequence(alloc, program, script)?;
-    let asks = launch_asks(alloc, &compiled.outlines, compiled.local)?;
+    let asks = launch_asks(alloc, &compiled.outlines)?;
     match read_stages(alloc, launch, &compiled.program, &asks) {
         Ok(file) => Ok(run_sequence(alloc, &compiled, &file)?),
         Err(no) => Err(Failure::for_launch(compiled.program, no)),

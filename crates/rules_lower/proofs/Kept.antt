@@ -5,6 +5,8 @@ use Rattle.std.specs.Prelude.{map, ◌&&◌, if◌then◌else◌, Result, Ok, Er
 use Rattle.size_arith.specs.declared.poly.Monomial.{Monomial}
 use Rattle.lift_tree.specs.declared.term.MapKind.{MapKind}
 use Rattle.lift_tree.specs.declared.term.MapKind.TheVariants as kind
+use Rattle.lift_tree.specs.declared.term.Level.TheVariants.{Items}
+use Rattle.lift_tree.specs.declared.term.Dimension.TheVariants.{X}
 use Rattle.lift_tree.specs.declared.term.FoldKind.TheVariants as fold
 use Rattle.lift_tree.specs.declared.term.UnaryForm.{UnaryForm}
 use Rattle.lift_tree.specs.declared.term.UnaryForm.TheVariants as unary
@@ -27,7 +29,7 @@ use Rattle.rewriting.specs.declared.refused.Refused.{Refused}
 use Rattle.rewriting.specs.Answers.{Becomes, NoSide, IsAnswer}
 use Rattle.rewriting.specs.Keeps.{KeepsIn}
 use Rattle.rules_lower.specs.declared.rule.Rule.{Rule}
-use Rattle.rules_lower.specs.declared.rule.Rule.TheVariants.{ToGlobal, ToWorkGroup, ToLocal, ToSequential, FoldSequential, Local, Private, LocalCopy, PrivateCopy, Then}
+use Rattle.rules_lower.specs.declared.rule.Rule.TheVariants.{ToParallel, ToSequential, FoldSequential, Local, Private, LocalCopy, PrivateCopy, Then}
 use Rattle.rules_lower.specs.Rules.{answer, mapped, folded, copied, if_closed}
 use Rattle.rules_lower.specs.Laws.{LoweringKeeps}
 use Rattle.rules_lower.proofs.Keeping.{keeping}
@@ -127,14 +129,12 @@ cut_becomes (PairOf a b) bs s u e = absurd (cc)
 cut_becomes (ArrayOf a n) bs s u e = let o = whole_becomes (holds_elements a) bs s u e in (holds_so a o.0, o.1)
 
 pub lowering_keeps : LoweringKeeps
-lowering_keeps ToGlobal a t u e = mapped_keeps kind.Global a t u e
-lowering_keeps ToWorkGroup a t u e = mapped_keeps kind.WorkGroup a t u e
-lowering_keeps ToLocal a t u e = mapped_keeps kind.Local a t u e
+lowering_keeps (ToParallel level dimension) a t u e = mapped_keeps (kind.Over level dimension) a t u e
 lowering_keeps ToSequential a t u e = mapped_keeps kind.Sequential a t u e
 lowering_keeps FoldSequential a t u e = folded_keeps a t u e
 lowering_keeps Local a t u e = on_array_keeps a t (Unary unary.ToLocal t) u (type_in a.types) refl (λ x n h. kept_keeps unary.ToLocal IsArray keeping_local a t (ap is_array h)) e
 lowering_keeps Private a t u e = on_array_keeps a t (Unary unary.ToPrivate t) u (type_in a.types) refl (λ x n h. kept_keeps unary.ToPrivate IsArray keeping_private a t (ap is_array h)) e
-lowering_keeps LocalCopy a t u e = on_array_keeps a t (copied unary.ToLocal kind.Local t) u (type_in a.types) refl (copy_keeps unary.ToLocal keeping_local a kind.Local t) e
+lowering_keeps LocalCopy a t u e = on_array_keeps a t (copied unary.ToLocal (kind.Over Items X) t) u (type_in a.types) refl (copy_keeps unary.ToLocal keeping_local a (kind.Over Items X) t) e
 lowering_keeps PrivateCopy a t u e = on_array_keeps a t (copied unary.ToPrivate kind.Sequential t) u (type_in a.types) refl (copy_keeps unary.ToPrivate keeping_private a kind.Sequential t) e
 lowering_keeps Then a t u e =
     let o = cut_becomes (type_in a.types) a.binders (Unary unary.Then t) u e in

@@ -2,6 +2,8 @@
 use Rattle.std.specs.Prelude.{if◌then◌else◌, List, [], ◌∷◌}
 use Rattle.lift_tree.specs.declared.term.MapKind.{MapKind}
 use Rattle.lift_tree.specs.declared.term.MapKind.TheVariants as map
+use Rattle.lift_tree.specs.declared.term.Level.TheVariants.{Items}
+use Rattle.lift_tree.specs.declared.term.Dimension.TheVariants.{X}
 use Rattle.lift_tree.specs.declared.term.FoldKind.TheVariants as fold
 use Rattle.lift_tree.specs.declared.term.UnaryForm.{UnaryForm}
 use Rattle.lift_tree.specs.declared.term.UnaryForm.TheVariants as unary
@@ -12,7 +14,7 @@ use Rattle.rewriting.specs.declared.refused.Condition.TheVariants.{Array, Whole,
 use Rattle.rewriting.specs.Around.{Around}
 use Rattle.rewriting.specs.Answers.{Answer, Becomes, NoShape, NoSide}
 use Rattle.rules_lower.specs.declared.rule.Rule.{Rule}
-use Rattle.rules_lower.specs.declared.rule.Rule.TheVariants.{ToGlobal, ToWorkGroup, ToLocal, ToSequential, FoldSequential, Local, Private, LocalCopy, PrivateCopy, Then}
+use Rattle.rules_lower.specs.declared.rule.Rule.TheVariants.{ToParallel, ToSequential, FoldSequential, Local, Private, LocalCopy, PrivateCopy, Then}
 
 -- a plain map, run so
 abbrev pub mapped : MapKind → Tree → Answer
@@ -51,13 +53,11 @@ cut_off a t =
 
 -- what the rule says of a term with this around it
 abbrev pub answer : Rule → Around → Tree → Answer
-answer ToGlobal a t = mapped map.Global t
-answer ToWorkGroup a t = mapped map.WorkGroup t
-answer ToLocal a t = mapped map.Local t
+answer (ToParallel level dimension) a t = mapped (map.Over level dimension) t
 answer ToSequential a t = mapped map.Sequential t
 answer FoldSequential a t = folded t
 answer Local a t = on_array a (Unary unary.ToLocal t)
 answer Private a t = on_array a (Unary unary.ToPrivate t)
-answer LocalCopy a t = on_array a (copied unary.ToLocal map.Local t)
+answer LocalCopy a t = on_array a (copied unary.ToLocal (map.Over Items X) t)
 answer PrivateCopy a t = on_array a (copied unary.ToPrivate map.Sequential t)
 answer Then a t = cut_off a t

@@ -7,7 +7,7 @@ ghost use Rattle.rewriting.specs.Answers.{IsAnswer};
 ghost use Rattle.rewriting.specs.Keeps.{KeepsIn};
 ghost use Rattle.rules_lower.specs.Rules.{answer, copied, cut_off, folded, mapped, on_array};
 
-use lift_tree::term::{FoldKind, MapKind, Term, UnaryForm};
+use lift_tree::term::{Dimension, FoldKind, Level, MapKind, Term, UnaryForm};
 use lift_tree::typed::Context;
 use rewriting::refused::{Condition, Refused};
 use std::alloc::{AllocError, Global};
@@ -15,12 +15,9 @@ use std::alloc::{AllocError, Global};
 /// A rule that says how a term is run.
 #[derive(Clone, Copy, PartialEq, Eq)]
 pub enum Rule {
-    /// `to-glb`: a map is run over the work-items of all groups.
-    ToGlobal,
-    /// `to-wrg`: a map is run over the work-groups.
-    ToWorkGroup,
-    /// `to-lcl`: a map is run over the work-items of a group.
-    ToLocal,
+    /// `to-glb`, `to-wrg`, `to-lcl`: a map is run over the work-items of all groups, over the
+    /// work-groups, or over the work-items of a group; with `1` behind the name along dimension 1.
+    ToParallel(Level, Dimension),
     /// `to-seq`: a map is run by one work-item.
     ToSequential,
     /// `fold-seq`: a fold is run by one work-item.
@@ -51,14 +48,18 @@ pub fn apply(alloc: Global, rule: &Rule, term: Term, context: &Context) -> Resul
     ensures keeps { IfOk result (λ u. KeepsIn (context_of context.now) (tree_of term) (tree_of u)) }
 {
     match *rule {
-        Rule::ToGlobal => mapped(term, MapKind::Global),
-        Rule::ToWorkGroup => mapped(term, MapKind::WorkGroup),
-        Rule::ToLocal => mapped(term, MapKind::Local),
+        Rule::ToParallel(level, dimension) => mapped(term, MapKind::Over(level, dimension)),
         Rule::ToSequential => mapped(term, MapKind::Sequential),
         Rule::FoldSequential => folded(term),
         Rule::Local => kept(alloc, UnaryForm::ToLocal, term, context),
         Rule::Private => kept(alloc, UnaryForm::ToPrivate, term, context),
-        Rule::LocalCopy => copied(alloc, UnaryForm::ToLocal, MapKind::Local, term, context),
+        Rule::LocalCopy => copied(
+            alloc,
+            UnaryForm::ToLocal,
+            MapKind::Over(Level::Items, Dimension::X),
+            term,
+            context,
+        ),
         Rule::PrivateCopy => copied(
             alloc,
             UnaryForm::ToPrivate,

@@ -246,10 +246,23 @@ const REGROUPED: [(&str, &str, &str); 7] = [
     ),
 ];
 
-const LOWER: [(&str, &str, &str); 14] = [
+const LOWER: [(&str, &str, &str); 19] = [
     ("map(\\x. x, xs)", "at . to-glb", "mapGlb(\\_0. _0, xs)"),
     ("map(\\x. x, xs)", "at . to-wrg", "mapWrg(\\_0. _0, xs)"),
     ("map(\\x. x, xs)", "at . to-lcl", "mapLcl(\\_0. _0, xs)"),
+    ("map(\\x. x, xs)", "at . to-glb1", "mapGlb1(\\_0. _0, xs)"),
+    ("map(\\x. x, xs)", "at . to-wrg1", "mapWrg1(\\_0. _0, xs)"),
+    ("map(\\x. x, xs)", "at . to-lcl1", "mapLcl1(\\_0. _0, xs)"),
+    (
+        "map(\\r. map(\\x. add(x, 1), r), rows)",
+        "at 1 to-glb\nat . to-glb1",
+        "mapGlb1(\\_0. mapGlb(\\_1. add(_1, 1), _0), rows)",
+    ),
+    (
+        "map(\\r. map(\\x. x, r), rows)",
+        "at . to-lcl1\nat 1 to-lcl",
+        "mapLcl1(\\_0. mapLcl(\\_1. _1, _0), rows)",
+    ),
     ("map(\\x. x, xs)", "at . to-seq", "mapSeq(\\_0. _0, xs)"),
     (
         "fold(\\a x. x, 5, xs)",

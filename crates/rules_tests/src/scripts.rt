@@ -1,6 +1,7 @@
 //! The text of a script.
 
 use lift_tree::local_size::LocalSize;
+use lift_tree::term::{Dimension, Level};
 use rules_algebra::Rule as Algebra;
 use rules_lower::Rule as Lower;
 use rules_split::Rule as Split;
@@ -9,7 +10,7 @@ use std::test::Fail;
 use strategy_script::{Rule, ScriptLimit, ScriptNo, read_script};
 
 // Each rule by its name, at the root or below.
-const STEPS: [(&str, &[u32], Rule); 32] = [
+const STEPS: [(&str, &[u32], Rule); 35] = [
     ("at . fuse-map", &[], Rule::Algebra(Algebra::FuseMap)),
     ("at 0 fuse-fold", &[0], Rule::Algebra(Algebra::FuseFold)),
     (
@@ -64,9 +65,36 @@ const STEPS: [(&str, &[u32], Rule); 32] = [
     ),
     ("at . reduce-fold", &[], Rule::Split(Split::ReduceFold)),
     ("at . tile-slide 64", &[], Rule::Split(Split::TileSlide(64))),
-    ("at . to-glb", &[], Rule::Lower(Lower::ToGlobal)),
-    ("at . to-wrg", &[], Rule::Lower(Lower::ToWorkGroup)),
-    ("at . to-lcl", &[], Rule::Lower(Lower::ToLocal)),
+    (
+        "at . to-glb",
+        &[],
+        Rule::Lower(Lower::ToParallel(Level::Launch, Dimension::X)),
+    ),
+    (
+        "at . to-glb1",
+        &[],
+        Rule::Lower(Lower::ToParallel(Level::Launch, Dimension::Y)),
+    ),
+    (
+        "at . to-wrg",
+        &[],
+        Rule::Lower(Lower::ToParallel(Level::Groups, Dimension::X)),
+    ),
+    (
+        "at . to-wrg1",
+        &[],
+        Rule::Lower(Lower::ToParallel(Level::Groups, Dimension::Y)),
+    ),
+    (
+        "at . to-lcl",
+        &[],
+        Rule::Lower(Lower::ToParallel(Level::Items, Dimension::X)),
+    ),
+    (
+        "at . to-lcl1",
+        &[],
+        Rule::Lower(Lower::ToParallel(Level::Items, Dimension::Y)),
+    ),
     ("at . to-seq", &[], Rule::Lower(Lower::ToSequential)),
     ("at . fold-seq", &[], Rule::Lower(Lower::FoldSequential)),
     ("at . local", &[], Rule::Lower(Lower::Local)),
@@ -87,22 +115,33 @@ const COUNTED: [(&str, usize); 3] = [
     ("at . to-seq\r\n\tat\t1  copy \n#\nat . local", 3),
 ];
 
-// Texts, the local size that each fixes, and how many steps it has.
-const SIZED: [(&str, Option<u32>, usize); 6] = [
-    ("launch local 2", Some(2), 0),
-    ("launch local 1\nat . to-seq", Some(1), 1),
+// Texts, the local size that each fixes, along a row and from row to row, and how many steps it
+// has.
+const SIZED: [(&str, Option<(u32, u32)>, usize); 12] = [
+    ("launch local 2", Some((2, 1)), 0),
+    ("launch local 1\nat . to-seq", Some((1, 1)), 1),
     (
         "# groups\n\n \t launch\tlocal  256 \r\nat . copy\nat . local",
-        Some(256),
+        Some((256, 1)),
         2,
     ),
-    ("launch local 4\n# launch local 2\n\nat . copy", Some(4), 1),
+    (
+        "launch local 4\n# launch local 2\n\nat . copy",
+        Some((4, 1)),
+        1,
+    ),
+    ("launch local 2 3", Some((2, 3)), 0),
+    ("launch local 4 1\nat . copy", Some((4, 1)), 1),
+    ("launch local 16 16", Some((16, 16)), 0),
+    ("launch local 1 256", Some((1, 256)), 0),
+    ("launch local 85 3", Some((85, 3)), 0),
+    ("\tlaunch local\t2  3 \r\nat . copy", Some((2, 3)), 1),
     ("# launch local 2\nat . copy", None, 1),
     ("", None, 0),
 ];
 
 // Texts, and the first line that is none of a script, or stands where it may not.
-const REFUSED: [(&str, u64); 36] = [
+const REFUSED: [(&str, u64); 47] = [
     ("launch local 0", 1),
     ("launch local 257", 1),
     ("launch local 4294967297", 1),
@@ -113,7 +152,18 @@ const REFUSED: [(&str, u64); 36] = [
     ("launch global 2", 1),
     ("Launch local 2", 1),
     ("launch local 2 # x", 1),
-    ("launch local 2 2", 1),
+    ("launch local 16 17", 1),
+    ("launch local 86 3", 1),
+    ("launch local 257 1", 1),
+    ("launch local 2 0", 1),
+    ("launch local 0 2", 1),
+    ("launch local 65536 65536", 1),
+    ("launch local 2 4294967297", 1),
+    ("launch local 2 03", 1),
+    ("launch local 2 three", 1),
+    ("launch local 2 2 2", 1),
+    ("launch local 2 2 # x", 1),
+    ("launch local 2\nlaunch local 2 3", 2),
     ("launch local2", 1),
     ("launch local +2", 1),
     ("launch local 2\nlaunch local 2", 2),
@@ -158,7 +208,7 @@ fn has_steps(alloc: Global, text: &[u8], count: usize) -> Result<bool, Fail> {
     }
 }
 
-fn fixes(alloc: Global, text: &str, local: Option<u32>, count: usize) -> Result<bool, Fail> {
+fn fixes(alloc: Global, text: &str, local: Option<(u32, u32)>, count: usize) -> Result<bool, Fail> {
     match read_script(alloc, text.as_bytes()) {
         Ok(script) => Ok(
             LocalSize::fixed(script.local()) == local && script.steps().len() == count,

@@ -26,8 +26,8 @@ starts_so k l c = record {
   epochs = λ g f. refl;
 }
 
-module _ (lengths : ListsHaveLengths) (typing : AnnotatedIsTyped) (sound : ValuesHaveTypes) (local : Option ℕ) (k : Stage) (declared : IsDeclared k.declared) (nodes : Annotates k.declared [] k.tree k.types) (output : IsOutput (type_in k.types)) (keeps : SequenceKeeps k.declared local k.tree (type_in k.types) (k ∷ [])) where
-  run_keeps : (w : World) (l : Launch) (c : Cells) (s : State) (es : List Event) → IsAdmissible k.declared w → IsLaunchOf k.declared (asks_of local k.tree) w.bases l → AreBuffersOf k.declared w k.tree k.types c
+module _ (lengths : ListsHaveLengths) (typing : AnnotatedIsTyped) (sound : ValuesHaveTypes) (local : Option (ℕ × ℕ)) (k : Stage) (declared : IsDeclared k.declared) (nodes : Annotates k.declared [] k.tree k.types) (output : IsOutput (type_in k.types)) (keeps : SequenceKeeps k.declared local k.tree (type_in k.types) (k ∷ [])) where
+  run_keeps : (w : World) (l : Launch) (c : Cells) (s : State) (es : List Event) → IsAdmissible k.declared w → IsLaunchOf k.declared (asks_of local k.tree) w.bases k.tree k.types l → AreBuffersOf k.declared w k.tree k.types c
       → IsStart k.kernel l c s → IsRun (device_of k.kernel l c) s es
       → StageKeeps w.bases k (record { launch = l; cells = c; state = s; events = es }) (type_in k.types) (meaning w [] k.tree)
   run_keeps w l c s es ok launch buffers start run =
@@ -35,7 +35,8 @@ module _ (lengths : ListsHaveLengths) (typing : AnnotatedIsTyped) (sound : Value
       let typed : HasType w.bases (type_in k.types) (meaning w [] k.tree) =
       sound k.declared w [] [] k.tree (type_in k.types) declared ok tt (no_binders w.bases) (typing k.declared [] k.tree k.types nodes) in
       let its : IsStageRun local w.bases k r = record {
-        launch = launch;
+        launch = launch.admissible;
+        sizes = launch.sizes;
         outputs = buffers.outputs ∙ lengths w.bases (type_in k.types) (meaning w [] k.tree) (elements (type_in k.types) output) typed;
         start = start;
         run = run;

@@ -16,10 +16,11 @@ use Rattle.lift_tree.specs.Tree.{tree_of}
 use Rattle.lift_tree.specs.Types.{HasType, HaveTypes, HoldsElements, IsOutput, PlainTy, U32, PairOf, ArrayOf, ty_of}
 use Rattle.lift_tree.specs.Typing.{Declared, IsAdmissible, ValuesHaveTypes}
 use Rattle.lift_tree.specs.Values.{Value}
+use Rattle.lowered_tree.specs.Kinds.{asks_of}
 use Rattle.lowered_tree.specs.Named.{declared_of}
 use Rattle.lowered_tree.specs.declared.lowered.Lowered.{Lowered}
 use Rattle.value_lists.specs.Laws.{ListsHaveLengths}
-use Rattle.printed_form.specs.Programs.{AreBuffersOf}
+use Rattle.printed_form.specs.Programs.{AreBuffersOf, IsLaunchOf}
 use Rattle.kernel_sequence.specs.Cut.{Part}
 use Rattle.kernel_sequence.specs.Parts.{term_part}
 use Rattle.kernel_sequence.specs.Sequence.{scratch_of}
@@ -45,7 +46,7 @@ some_part : (ps : List Part) (p : Part) → [] ≡ ps ++ p ∷ [] → ⊥
 some_part [] p e = absurd (cc)
 some_part (q ∷ ps) p e = absurd (cc)
 
-module _ (stay : InputsStay) (lengths : ListsHaveLengths) (typing : AnnotatedIsTyped) (sound : ValuesHaveTypes) (local : Option ℕ) (w : World) (names : List Name) (ok : Admissible names w.bases) (sizes : w.sizes ≡ sizes_at names w.bases) where
+module _ (stay : InputsStay) (lengths : ListsHaveLengths) (typing : AnnotatedIsTyped) (sound : ValuesHaveTypes) (local : Option (ℕ × ℕ)) (w : World) (names : List Name) (ok : Admissible names w.bases) (sizes : w.sizes ≡ sizes_at names w.bases) where
   -- one kernel, where the inputs have these types and values
   module _ (xs : List PlainTy) (vs : List Value) (even : length xs ≡ length vs) (types : HaveTypes w.bases xs vs) (l : Lowered) (named : l.names ≡ names) (inputs : map ty_of l.inputs.items ≡ xs) (k : Kernel) (of : IsKernelOf local l k) (r : StageRun) (ins : r.cells.ins ≡ buffers_of xs vs) (its : IsStageRun local w.bases (stage_of l k) r) where
     own : PlainTy
@@ -67,10 +68,13 @@ module _ (stay : InputsStay) (lengths : ListsHaveLengths) (typing : AnnotatedIsT
       outputs = its.outputs ∙ sym (lengths w.bases (type_in (annotation_of l.types)) (value_with w vs (term_part l)) (elements (type_in (annotation_of l.types)) of.sound.output) typed);
     }
 
+    launch : IsLaunchOf (declared_of l) (asks_of local (tree_of l.term)) w.bases (tree_of l.term) (annotation_of l.types) r.launch
+    launch = record { admissible = its.launch; sizes = its.sizes; asked = of.asked }
+
     pub keeps : StageKeeps w.bases (stage_of l k) r (type_in (annotation_of l.types)) (value_with w vs (term_part l))
     keeps = record {
-      starts = of.kernel.starts (with_inputs w vs) r.launch r.cells admissible its.launch buffers;
-      keeps = of.kernel.keeps (with_inputs w vs) r.launch r.cells admissible its.launch buffers r.state r.events its.start its.run;
+      starts = of.kernel.starts (with_inputs w vs) r.launch r.cells admissible launch buffers;
+      keeps = of.kernel.keeps (with_inputs w vs) r.launch r.cells admissible launch buffers r.state r.events its.start its.run;
     }
 
     pub passes : (c : Cells) → IsStuck (device (stage_of l k) r) (left (stage_of l k) r) → Passes (stage_of l k) r c

@@ -19,7 +19,7 @@ use Rattle.sequence_runs.specs.Stages.{AreKernelsOfEach, stages_of}
 -- term's, then run in order they keep the program's value
 abbrev pub SequencesKeep : Type 0
 SequencesKeep =
-    (p : PlainProgram) (l : Lowered) (local : Option ℕ) (ls : List Lowered) (ks : List Kernel)
+    (p : PlainProgram) (l : Lowered) (local : Option (ℕ × ℕ)) (ls : List Lowered) (ks : List Kernel)
     → declared_of l ≡ declared_by p → HasOutput p p.body (type_in (annotation_of l.types))
     → Keeps (declared_by p) [] p.body (tree_of l.term)
     → AreKernelsOf l ls → AreKernelsOfEach local ls ks
@@ -29,7 +29,7 @@ SequencesKeep =
 -- every run keeps the headline with its term's value
 abbrev pub OneKernelKeepsTheHeadline : Type 0
 OneKernelKeepsTheHeadline =
-    (local : Option ℕ) (k : Stage)
+    (local : Option (ℕ × ℕ)) (k : Stage)
     → IsDeclared k.declared → Annotates k.declared [] k.tree k.types → IsOutput (type_in k.types)
     → SequenceKeeps k.declared local k.tree (type_in k.types) (k ∷ [])
     → StartsTerm k.declared local k.tree k.types k.kernel

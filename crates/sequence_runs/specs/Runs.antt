@@ -4,8 +4,9 @@ use Rattle.kernel_tree.specs.declared.events.Event.{Event}
 use Rattle.kernel_tree.specs.Code.{Input, Kernel}
 use Rattle.kernel_tree.specs.Device.{Device, State, IsStart, IsRun, IsStuck, device_of, row, run}
 use Rattle.kernel_tree.specs.Launch.{Cells, Launch, MayStart}
+use Rattle.size_arith.specs.Ranges.{sizes_at}
 use Rattle.lift_tree.specs.Annotations.{Annotation, type_in}
-use Rattle.lift_tree.specs.Launches.{buffers_of, lists_of}
+use Rattle.lift_tree.specs.Launches.{IsAdmissibleLaunch, buffers_of, lists_of}
 use Rattle.lift_tree.specs.Meaning.{World, meaning}
 use Rattle.lift_tree.specs.Tree.{Tree}
 use Rattle.lift_tree.specs.Types.{HasType, PlainTy}
@@ -14,7 +15,7 @@ use Rattle.lift_tree.specs.Values.{Value}
 use Rattle.lowered_tree.specs.Kinds.{asks_of}
 use Rattle.value_lists.specs.Lists.{list_lengths}
 use Rattle.printed_form.specs.Headline.{KeepsHeadline, output_cell}
-use Rattle.printed_form.specs.Programs.{IsLaunchOf, cell_owner}
+use Rattle.printed_form.specs.Programs.{cell_owner}
 
 -- a kernel of a sequence, with the term that it is made for and what this may name
 pub record Stage : Type 0 where
@@ -42,8 +43,10 @@ left k r = run (device k r) r.state r.events
 -- A run of a kernel: its launch is admissible where the base names have these values, the buffers
 -- of its output are as long as its term's type says and hold anything, as does all other memory
 -- but its inputs.
-pub record IsStageRun (local : Option ℕ) (bases : List ℕ) (k : Stage) (r : StageRun) : Type 0 where
-  pub launch : IsLaunchOf k.declared (asks_of local k.tree) bases r.launch
+pub record IsStageRun (local : Option (ℕ × ℕ)) (bases : List ℕ) (k : Stage) (r : StageRun) : Type 0 where
+  pub launch : IsAdmissibleLaunch k.declared.names (asks_of local k.tree) bases
+      r.launch.global r.launch.local
+  pub sizes : r.launch.sizes ≡ sizes_at k.declared.names bases
   pub outputs : map length r.cells.outs ≡ list_lengths bases (type_in k.types)
   pub start : IsStart k.kernel r.launch r.cells r.state
   pub run : IsRun (device k r) r.state r.events
@@ -65,7 +68,7 @@ GoesOver k r (next ∷ rs) = IsStuck (device k r) (left k r) × Passes k r next.
 
 -- runs of the first kernels in order, each from the buffers that the one before left after it
 -- stopped, with one valuation; the last run may be unfinished
-abbrev pub AreRuns : (local : Option ℕ) → (bases : List ℕ) → List Stage → List StageRun → Type 0
+abbrev pub AreRuns : (local : Option (ℕ × ℕ)) → (bases : List ℕ) → List Stage → List StageRun → Type 0
 AreRuns local bases ks [] = Unit {0}
 AreRuns local bases [] (r ∷ rs) = ⊥
 AreRuns local bases (k ∷ ks) (r ∷ rs) =
@@ -100,7 +103,7 @@ AllKeep bases a v (k ∷ next ∷ ks) (r ∷ rs) =
 -- cell of its kernel's output at most once, by its owner; and the last kernel's can stop only with
 -- the source's value in the output's buffers.
 abbrev pub SequenceKeeps :
-    Declared → (local : Option ℕ) → (source : Tree) → (output : PlainTy) → List Stage → Type 0
+    Declared → (local : Option (ℕ × ℕ)) → (source : Tree) → (output : PlainTy) → List Stage → Type 0
 SequenceKeeps d local source output ks =
     (w : World) (rs : List StageRun) → IsAdmissible d w
     → BeginsWith (buffers_of d.inputs w.inputs) rs → AreRuns local w.bases ks rs

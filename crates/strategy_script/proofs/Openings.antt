@@ -34,12 +34,12 @@ pub no_step : (line : List ℕ) → is_no_step line ≡ true → step_of line �
 no_step line e = ap (λ b. cond b (step_behind (behind_word line)) None) (not_at (from_word line) e)
 
 -- nor is one that fixes a local size a step
-sized_step : (line : List ℕ) (size : ℕ) (v : Bool) → bytes_eq (first_word line) (codes "launch") ≡ v → cond v (size_behind (behind_word line)) None ≡ Some size → step_of line ≡ None
+sized_step : (line : List ℕ) (size : ℕ × ℕ) (v : Bool) → bytes_eq (first_word line) (codes "launch") ≡ v → cond v (size_behind (behind_word line)) None ≡ Some size → step_of line ≡ None
 sized_step line size true is e =
     ap (λ (w : List ℕ). cond (bytes_eq w (codes "at")) (step_behind (behind_word line)) None) (same_text (first_word line) (codes "launch") (sym is))
 sized_step line size false is e = absurd (cc)
 
-pub no_step_but_size : (line : List ℕ) (size : ℕ) → local_of line ≡ Some size → step_of line ≡ None
+pub no_step_but_size : (line : List ℕ) (size : ℕ × ℕ) → local_of line ≡ Some size → step_of line ≡ None
 no_step_but_size line size e = sized_step line size (bytes_eq (first_word line) (codes "launch")) refl e
 
 -- ---- one line more
@@ -57,10 +57,10 @@ pub good_passed : (all rest : List (List ℕ)) (line : List ℕ) → all ≡ lin
 good_passed all rest line e none = ap script_lines e ∙ ap (λ v. counted_by v (is_some (local_of line)) line rest) none
 
 -- the first other line, which may fix the local size
-pub size_here : (all rest : List (List ℕ)) (line : List ℕ) (o : Option ℕ) → all ≡ line ∷ rest → is_no_step line ≡ false → local_of line ≡ o → local_in all ≡ o
+pub size_here : (all rest : List (List ℕ)) (line : List ℕ) (o : Option (ℕ × ℕ)) → all ≡ line ∷ rest → is_no_step line ≡ false → local_of line ≡ o → local_in all ≡ o
 size_here all rest line o e some is = ap local_in e ∙ ap (λ v. cond v (local_in rest) (local_of line)) some ∙ is
 
-pub good_sized : (all rest : List (List ℕ)) (line : List ℕ) (size : ℕ) → all ≡ line ∷ rest → is_no_step line ≡ false → local_of line ≡ Some size → script_lines all ≡ 1 + step_lines rest
+pub good_sized : (all rest : List (List ℕ)) (line : List ℕ) (size : ℕ × ℕ) → all ≡ line ∷ rest → is_no_step line ≡ false → local_of line ≡ Some size → script_lines all ≡ 1 + step_lines rest
 good_sized all rest line size e some is =
     ap script_lines e ∙ ap (λ v. counted_by v (is_some (local_of line)) line rest) some ∙ ap (λ o. counted_by false (is_some o) line rest) is
 
@@ -70,20 +70,20 @@ good_unsized all rest line e some is =
 
 -- ---- the whole text, behind its opening
 -- the opening's size, its lines, and the text behind it
-pub record Opens (text : List ℕ) (local : Option ℕ) (before : ℕ) (rest : List ℕ) : Type 0 where
+pub record Opens (text : List ℕ) (local : Option (ℕ × ℕ)) (before : ℕ) (rest : List ℕ) : Type 0 where
   pub size : local ≡ local_in (lines text)
   pub good : before + step_lines (lines rest) ≡ good_lines text
   pub all : before + length (lines rest) ≡ length (lines text)
   pub steps : steps_in rest ≡ steps_in text
 
-pub script_opened : (text rest : List ℕ) (local : Option ℕ) (before : ℕ) (steps : List Step) → Opens text local before rest → AreSteps rest steps → IsScript text (record { local = local; steps = steps })
+pub script_opened : (text rest : List ℕ) (local : Option (ℕ × ℕ)) (before : ℕ) (steps : List Step) → Opens text local before rest → AreSteps rest steps → IsScript text (record { local = local; steps = steps })
 script_opened text rest local before steps opens are = record {
   all = let a = opens.good in let b = opens.all in let c = are.all in omega arith;
   found = let size = opens.size in let found = are.found ∙ opens.steps in
-      ap (λ (o : Option ℕ). record { local = o; steps = steps }) size ∙ ap (λ (s : List Step). record { local = local_in (lines text); steps = s }) found;
+      ap (λ (o : Option (ℕ × ℕ)). record { local = o; steps = steps }) size ∙ ap (λ (s : List Step). record { local = local_in (lines text); steps = s }) found;
 }
 
-pub refused_opened : (text rest : List ℕ) (local : Option ℕ) (before : ℕ) (no : ScriptNo) → Opens text local before rest → RefusesSteps before rest no → RefusesScript text no
+pub refused_opened : (text rest : List ℕ) (local : Option (ℕ × ℕ)) (before : ℕ) (no : ScriptNo) → Opens text local before rest → RefusesSteps before rest no → RefusesScript text no
 refused_opened text rest local before (scripts.Syntax line) opens h =
     let a = opens.good in let b = opens.all in let there = h.0 in let counted = h.1 in
     record { there = omega arith; counted = omega arith }
@@ -97,18 +97,18 @@ refused_on text (Ok v) e same h = tt
 refused_on text (Err x) e same h = subst (RefusesScript text) (sym same) h
 
 -- what is told of a script that is made
-abbrev pub IsMade : (local : Option ℕ) (steps : List Step) → Result PlainScript ScriptNo → Type 0
+abbrev pub IsMade : (local : Option (ℕ × ℕ)) (steps : List Step) → Result PlainScript ScriptNo → Type 0
 IsMade local steps r = IfOk r (λ s. (s.local ≡ local) × (s.steps ≡ steps) × (length steps ≤ 256))
 
-pub script_told : (text : List ℕ) (local : Option ℕ) (steps : List Step) (r : Result PlainScript ScriptNo) → IsScript text (record { local = local; steps = steps }) → IsMade local steps r
+pub script_told : (text : List ℕ) (local : Option (ℕ × ℕ)) (steps : List Step) (r : Result PlainScript ScriptNo) → IsScript text (record { local = local; steps = steps }) → IsMade local steps r
     → IfOk r (λ s. IsScript text s × (length s.steps ≤ 256))
 script_told text local steps (Ok s) is made =
-    let same : record { local = local; steps = steps } ≡ s = ap (λ (o : Option ℕ). record { local = o; steps = steps }) (sym made.0) ∙ ap (λ (w : List Step). record { local = s.local; steps = w }) (sym made.1) in
+    let same : record { local = local; steps = steps } ≡ s = ap (λ (o : Option (ℕ × ℕ)). record { local = o; steps = steps }) (sym made.0) ∙ ap (λ (w : List Step). record { local = s.local; steps = w }) (sym made.1) in
     let P : PlainScript → Type 0 = λ w. IsScript text w × (length w.steps ≤ 256) in
     subst P same (is, made.2)
 script_told text local steps (Err e) is made = tt
 
-pub many_told : (text : List ℕ) (local : Option ℕ) (steps : List Step) (r : Result PlainScript ScriptNo) → IsScript text (record { local = local; steps = steps })
+pub many_told : (text : List ℕ) (local : Option (ℕ × ℕ)) (steps : List Step) (r : Result PlainScript ScriptNo) → IsScript text (record { local = local; steps = steps })
     → IfErr r (λ e. (e ≡ scripts.Limit limits.Steps (length steps)) × (256 < length steps)) → IfErr r (RefusesScript text)
 many_told text local steps (Ok s) is many = tt
 many_told text local steps (Err e) is many =

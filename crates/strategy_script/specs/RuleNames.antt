@@ -1,4 +1,6 @@
 -- The rules' names in scripts.
+use Rattle.lift_tree.specs.declared.term.Level.TheVariants as level
+use Rattle.lift_tree.specs.declared.term.Dimension.TheVariants as dimension
 use Rattle.std.specs.Prelude.{ℕ, List, [], ◌∷◌, Option, bytes_eq, codes, find}
 use Rattle.rules_algebra.specs.declared.rule.Rule as algebra_rules
 use Rattle.rules_algebra.specs.declared.rule.Rule.TheVariants as algebra
@@ -39,9 +41,12 @@ split_name split.ReduceFold = codes "reduce-fold"
 
 -- the words for the rules that say how a term is run
 abbrev pub lower_name : lower_rules.Rule → List ℕ
-lower_name lower.ToGlobal = codes "to-glb"
-lower_name lower.ToWorkGroup = codes "to-wrg"
-lower_name lower.ToLocal = codes "to-lcl"
+lower_name (lower.ToParallel level.Launch dimension.X) = codes "to-glb"
+lower_name (lower.ToParallel level.Groups dimension.X) = codes "to-wrg"
+lower_name (lower.ToParallel level.Items dimension.X) = codes "to-lcl"
+lower_name (lower.ToParallel level.Launch dimension.Y) = codes "to-glb1"
+lower_name (lower.ToParallel level.Groups dimension.Y) = codes "to-wrg1"
+lower_name (lower.ToParallel level.Items dimension.Y) = codes "to-lcl1"
 lower_name lower.ToSequential = codes "to-seq"
 lower_name lower.FoldSequential = codes "fold-seq"
 lower_name lower.Local = codes "local"
@@ -77,9 +82,12 @@ plain_rules =
     Algebra algebra.LetInline ∷
     Algebra algebra.Copy ∷
     Split split.ReduceFold ∷
-    Lower lower.ToGlobal ∷
-    Lower lower.ToWorkGroup ∷
-    Lower lower.ToLocal ∷
+    Lower (lower.ToParallel level.Launch dimension.X) ∷
+    Lower (lower.ToParallel level.Groups dimension.X) ∷
+    Lower (lower.ToParallel level.Items dimension.X) ∷
+    Lower (lower.ToParallel level.Launch dimension.Y) ∷
+    Lower (lower.ToParallel level.Groups dimension.Y) ∷
+    Lower (lower.ToParallel level.Items dimension.Y) ∷
     Lower lower.ToSequential ∷
     Lower lower.FoldSequential ∷
     Lower lower.Local ∷

@@ -181,8 +181,8 @@ fn script_of(local: Option<LocalSize>, steps: Vec<Step>) -> Result<Script, Scrip
 /// blanks alone, or a comment. Blanks are spaces and tabs; a line ends with LF, which the last may
 /// lack, and a CR just before it is passed over. A place is `.`, or child numbers joined by `.`. A
 /// number is decimal, without a leading zero, at most 4294967295. One line before all steps may be
-/// `launch local K`, with K from 1 to 256, which fixes the local size of all launches. It is no
-/// step.
+/// `launch local K`, with K from 1 to 256, or `launch local K M`, both at least 1 and their product
+/// at most 256, which fixes the local size of all launches. It is no step.
 ///
 /// `Syntax` comes just where a line is none of these or stands where it may not, and names the
 /// first. `Limit` comes just where there is no such line, and more than 256 are steps.

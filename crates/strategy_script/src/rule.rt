@@ -3,6 +3,7 @@
 ghost use Rattle.std.specs.Prelude.{◌≡◌};
 ghost use Rattle.strategy_script.specs.RuleNames.{algebra_name, lower_name, numbered_named, plain_named, rule_name, split_name};
 
+use lift_tree::term::{Dimension, Level};
 use rules_algebra::Rule as Algebra;
 use rules_lower::Rule as Lower;
 use rules_split::Rule as Split;
@@ -18,7 +19,7 @@ pub enum Rule {
     Lower(Lower),
 }
 
-const PLAIN: [Rule; 28] = [
+const PLAIN: [Rule; 31] = [
     Rule::Algebra(Algebra::FuseMap),
     Rule::Algebra(Algebra::FuseFold),
     Rule::Algebra(Algebra::JoinSplit),
@@ -37,9 +38,12 @@ const PLAIN: [Rule; 28] = [
     Rule::Algebra(Algebra::LetInline),
     Rule::Algebra(Algebra::Copy),
     Rule::Split(Split::ReduceFold),
-    Rule::Lower(Lower::ToGlobal),
-    Rule::Lower(Lower::ToWorkGroup),
-    Rule::Lower(Lower::ToLocal),
+    Rule::Lower(Lower::ToParallel(Level::Launch, Dimension::X)),
+    Rule::Lower(Lower::ToParallel(Level::Groups, Dimension::X)),
+    Rule::Lower(Lower::ToParallel(Level::Items, Dimension::X)),
+    Rule::Lower(Lower::ToParallel(Level::Launch, Dimension::Y)),
+    Rule::Lower(Lower::ToParallel(Level::Groups, Dimension::Y)),
+    Rule::Lower(Lower::ToParallel(Level::Items, Dimension::Y)),
     Rule::Lower(Lower::ToSequential),
     Rule::Lower(Lower::FoldSequential),
     Rule::Lower(Lower::Local),
@@ -89,9 +93,12 @@ fn lower_name(rule: Lower) -> &'static [u8]
     ensures { result.now ≡ lower_name rule }
 {
     match rule {
-        Lower::ToGlobal => b"to-glb",
-        Lower::ToWorkGroup => b"to-wrg",
-        Lower::ToLocal => b"to-lcl",
+        Lower::ToParallel(Level::Launch, Dimension::X) => b"to-glb",
+        Lower::ToParallel(Level::Groups, Dimension::X) => b"to-wrg",
+        Lower::ToParallel(Level::Items, Dimension::X) => b"to-lcl",
+        Lower::ToParallel(Level::Launch, Dimension::Y) => b"to-glb1",
+        Lower::ToParallel(Level::Groups, Dimension::Y) => b"to-wrg1",
+        Lower::ToParallel(Level::Items, Dimension::Y) => b"to-lcl1",
         Lower::ToSequential => b"to-seq",
         Lower::FoldSequential => b"fold-seq",
         Lower::Local => b"local",

@@ -11,6 +11,8 @@ use Rattle.lift_tree.specs.declared.term.BinaryForm.{BinaryForm}
 use Rattle.lift_tree.specs.declared.term.BinaryForm.TheVariants as binary
 use Rattle.lift_tree.specs.declared.term.MapKind.{MapKind}
 use Rattle.lift_tree.specs.declared.term.MapKind.TheVariants as map
+use Rattle.lift_tree.specs.declared.term.Level.TheVariants as level
+use Rattle.lift_tree.specs.declared.term.Dimension.TheVariants as dimension
 use Rattle.lift_tree.specs.declared.term.FoldKind.{FoldKind}
 use Rattle.lift_tree.specs.declared.term.FoldKind.TheVariants as fold
 use Rattle.lift_tree.specs.Programs.{PlainInput}
@@ -51,9 +53,12 @@ binary_start (binary.Reduce r) = codes "reduce(" ++ reducer_name r ++ codes ", "
 -- the word of a map, by who runs its turns
 abbrev pub map_name : MapKind → List ℕ
 map_name map.Plain = codes "map"
-map_name map.Global = codes "mapGlb"
-map_name map.WorkGroup = codes "mapWrg"
-map_name map.Local = codes "mapLcl"
+map_name (map.Over level.Launch dimension.X) = codes "mapGlb"
+map_name (map.Over level.Groups dimension.X) = codes "mapWrg"
+map_name (map.Over level.Items dimension.X) = codes "mapLcl"
+map_name (map.Over level.Launch dimension.Y) = codes "mapGlb1"
+map_name (map.Over level.Groups dimension.Y) = codes "mapWrg1"
+map_name (map.Over level.Items dimension.Y) = codes "mapLcl1"
 map_name map.Sequential = codes "mapSeq"
 
 -- the word of a fold, by who runs it

@@ -7,7 +7,7 @@ ghost use Rattle.term_texts.specs.Names.{binary_start, coefficient, copies, fold
 use itoa::Buffer;
 use lift_tree::length::Factor;
 use lift_tree::program::{Input, Size};
-use lift_tree::term::{BinaryForm, FoldKind, MapKind, Operator};
+use lift_tree::term::{BinaryForm, Dimension, FoldKind, Level, MapKind, Operator};
 use scalar_ops::op::Reducer;
 use std::alloc::{AllocError, Global};
 
@@ -78,9 +78,12 @@ pub fn map_name(kind: MapKind) -> &'static [u8]
 {
     match kind {
         MapKind::Plain => b"map",
-        MapKind::Global => b"mapGlb",
-        MapKind::WorkGroup => b"mapWrg",
-        MapKind::Local => b"mapLcl",
+        MapKind::Over(Level::Launch, Dimension::X) => b"mapGlb",
+        MapKind::Over(Level::Groups, Dimension::X) => b"mapWrg",
+        MapKind::Over(Level::Items, Dimension::X) => b"mapLcl",
+        MapKind::Over(Level::Launch, Dimension::Y) => b"mapGlb1",
+        MapKind::Over(Level::Groups, Dimension::Y) => b"mapWrg1",
+        MapKind::Over(Level::Items, Dimension::Y) => b"mapLcl1",
         MapKind::Sequential => b"mapSeq",
     }
 }

@@ -6,7 +6,7 @@ use Rattle.kernel_tree.specs.Code.{Array, Input, Output, Local as LocalArray, Pr
 use Rattle.kernel_tree.specs.Formula.{Formula, Ids}
 use Rattle.kernel_tree.specs.Launch.{Launch, ids_of}
 use Rattle.lift_ir.specs.Types.{Ty, Scalar, PairOf, ArrayOf, width}
-use Rattle.lift_ir.specs.Terms.{LoadSet, Skip, Take, Each, Kind, Global, WorkGroup, Local, Sequential, Term, Literal, Bound, Apply, ApplyNumber, Select, Both, Project, LetElement, push}
+use Rattle.lift_ir.specs.Terms.{LoadSet, Skip, Take, Each, Kind, Global, WorkGroup, Local, GlobalRows, WorkGroupRows, LocalRows, Sequential, Term, Literal, Bound, Apply, ApplyNumber, Select, Both, Project, LetElement, push}
 use Rattle.lift_ir.specs.Scalars.{by_side}
 use Rattle.printed_form.specs.Counts.{let_variables, load_count}
 use Rattle.printed_form.specs.Expressions.{held, exprs}
@@ -46,6 +46,9 @@ turns_are : (ids : Ids) (k : Kind) (n : ℕ) → turns_below (start_value ids (s
 turns_are ids Global n = refl
 turns_are ids WorkGroup n = refl
 turns_are ids Local n = refl
+turns_are ids GlobalRows n = refl
+turns_are ids WorkGroupRows n = refl
+turns_are ids LocalRows n = refl
 turns_are ids Sequential n = refl
 
 -- what stands for each binder

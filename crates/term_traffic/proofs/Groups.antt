@@ -1,41 +1,39 @@
 -- What the code of a map over work-groups counts, with its barriers.
-use Rattle.std.proofs.Common.{◌≡◌, ℕ, suc, ◌+◌, ◌*◌, ◌/◌, ◌<◌, ◌≤◌, ◌^◌, Bool, true, false, List, [], ◌∷◌, Some, refl, sym, ap, ◌∙◌, subst, ⊎_elim, arith}
-use Rattle.std.specs.Prelude.{nat_lt}
+use Rattle.std.proofs.Common.{◌≡◌, ℕ, suc, ◌+◌, ◌*◌, ◌/◌, ◌<◌, ◌^◌, Bool, true, false, List, [], ◌∷◌, refl, ap, ◌∙◌, subst, arith}
 use Rattle.std.proofs.Math.Nat.{mod-lt}
-use Rattle.std.proofs.lemmas.Bool.{cases_lt, lt-ltb, ltb-true, cases_Bool}
-use Rattle.kernel_tree.specs.Bound.{or_zero}
-use Rattle.kernel_tree.specs.Formula.{Formula, bound_value}
-use Rattle.kernel_tree.specs.Code.{Local as LocalArray, Statement, Code, End}
+use Rattle.kernel_tree.specs.declared.tree.Dimension.TheVariants.{X}
+use Rattle.kernel_tree.specs.Formula.{Formula}
+use Rattle.kernel_tree.specs.Code.{Local as LocalArray, FromGroupId, FromLocalId, ByGroupCount, ByLocalSize, Statement, Code, End}
 use Rattle.kernel_tree.specs.Launch.{Launch, IsWhole, item_count, ids_of, column_of}
 use Rattle.kernel_tree.proofs.Grouping.{some_items}
-use Rattle.barrier_placement.specs.Fencing.{Fencing, Open, Fenced, stands}
+use Rattle.barrier_placement.specs.Fencing.{Fencing, stands}
 use Rattle.barrier_placement.specs.Separates.{bit}
 use Rattle.lift_ir.specs.Types.{Ty}
 use Rattle.lift_ir.specs.Layouts.{result_position}
-use Rattle.lift_ir.specs.Terms.{LoadSet, Global, Sequential, WorkGroup, Local, Space, LocalMemory, PrivateMemory, Term, Bound, Source, Both, Project, Reshape, LetArray, Map, Copy, push}
+use Rattle.lift_ir.specs.Terms.{LoadSet, Global, WorkGroup, Local, GlobalRows, WorkGroupRows, LocalRows, Sequential, Space, LocalMemory, PrivateMemory, Term, Bound, Source, Both, Project, Reshape, LetArray, Map, Copy, push}
 use Rattle.lift_ir.specs.Scalars.{at_index}
 use Rattle.printed_form.specs.Counts.{load_count, local_count}
 use Rattle.printed_form.specs.Form.{argument_marks, IsTurnOf}
 use Rattle.printed_form.specs.MapForms.{MapForm, Looped, Guarded, Alone, MapForms, form_over_groups, statement_over_groups, variables_in, MakesTurns, MakeTurns, TurnCode, AreTurns}
 use Rattle.printed_form.specs.Marks.{Marks, laid_in, loaded_marks}
-use Rattle.group_phases.specs.Epochs.{IsPast}
+use Rattle.group_phases.specs.Strides.{statement_of}
 use Rattle.group_form.specs.Form.{Used, used_after, IsLocalMap, IsGroupArgument, IsGroupWritten, IsGroupTurn, IsOverGroups}
 use Rattle.group_form.specs.Forms.{StandsOverGroups, IsOfInputs}
 use Rattle.group_form.specs.Stages.{marks_of}
 use Rattle.group_form.specs.Uses.{phases_in}
-use Rattle.kernel_traffic.specs.Traffic.{turns_below, once}
 use Rattle.kernel_traffic.specs.Laws.{TurnsGoOneByOne}
 use Rattle.term_traffic.specs.Regions.{Region, InGlobal, InLocal, Regions, all_in, regions_of, regions_left}
 use Rattle.term_traffic.specs.Short.{HasShortLoops}
 use Rattle.term_traffic.specs.Traffic.{turns_of, loads_in, argument_traffic, written_traffic, barriers_to, releases_of}
 use Rattle.term_traffic.proofs.Codes.{Counts, LieIn, AllLieIn, pushed, loaded_lies, total, loaded}
 use Rattle.term_traffic.proofs.Items.{CopiesTo, argument_lies, written_counts}
+use Rattle.term_traffic.proofs.Turned.{past, turned, over_form}
 
-laid_local : (first : ℕ) (ty : Ty) → LieIn (laid_in LocalArray first ty) (all_in InLocal)
+pub laid_local : (first : ℕ) (ty : Ty) → LieIn (laid_in LocalArray first ty) (all_in InLocal)
 laid_local first ty cs q = refl
 
 -- an argument of inputs has no copies, and no work
-of_inputs : {A : Type 0} (s : Space) (t : Term A) → IsOfInputs t → CopiesTo s t
+pub of_inputs : {A : Type 0} (s : Space) (t : Term A) → IsOfInputs t → CopiesTo s t
 of_inputs s (Bound v) h = tt
 of_inputs s (Source v) h = tt
 of_inputs s (Both true a b) h = (of_inputs s a h.0, of_inputs s b h.1)
@@ -46,7 +44,7 @@ of_inputs s (LetArray v b) h = (of_inputs s v h.0, of_inputs s b h.1)
 of_inputs s _ h = absurd h
 
 module _ {A : Type 0} (load store : Region → ℕ) (num : A → ℕ) (l : Launch) (item : ℕ) where
-  idle : (regions : ℕ → Regions) (t : Term A) → IsOfInputs t → argument_traffic load store num (ids_of l item) regions t ≡ 0
+  pub idle : (regions : ℕ → Regions) (t : Term A) → IsOfInputs t → argument_traffic load store num (ids_of l item) regions t ≡ 0
   idle regions (Bound v) h = refl
   idle regions (Source v) h = refl
   idle regions (Both true a b) h = let x = idle regions a h.0 in let y = idle regions b h.1 in omega arith
@@ -56,64 +54,22 @@ module _ {A : Type 0} (load store : Region → ℕ) (num : A → ℕ) (l : Launc
   idle regions (LetArray v b) h = let x = idle regions v h.0 in let y = idle (push (regions_of regions v) regions) b h.1 in omega arith
   idle regions _ h = absurd h
 
-factor_positive : (n m : ℕ) → 0 < n * m → 0 < n
+pub factor_positive : (n m : ℕ) → 0 < n * m → 0 < n
 factor_positive n m h = grind arith
 
-not_below : (m n : ℕ) → n ≤ m → nat_lt m n ≡ false
-not_below m n h = ⊎_elim (λ e. absurd (let lt = ltb-true m n e in omega arith)) (λ e. e) (cases_Bool (nat_lt m n))
-
 module _ (weight : Statement → ℕ) (load store : Region → ℕ) (sync : ℕ) (counts : Counts weight load store sync) (l : Launch) (whole : IsWhole l) (item : ℕ) (within : item < item_count l) (ins : ℕ → Marks) (inputs : AllLieIn ins (λ v. all_in InGlobal)) (turning : TurnsGoOneByOne) where
-  -- what stands before a phase
-  past : (f : Fencing) (code rest : Code) → IsPast f code rest → total weight load store sync counts l item code ≡ sync * bit (stands f) + total weight load store sync counts l item rest
-  past Open code rest h = ap (total weight load store sync counts l item) h ∙ (let m = total weight load store sync counts l item rest in omega arith)
-  past (Fenced a b) code rest h = ap (total weight load store sync counts l item) h ∙ ap (λ z. z + total weight load store sync counts l item rest) (counts.syncs a b ∙ (let e : sync ≡ sync * 1 = omega arith in e))
-
   local_below : (ids_of l item).x.local_id < l.local.0
   local_below = mod-lt (column_of l item) whole.x.positive
 
   some_groups : 0 < (ids_of l item).x.group_count
   some_groups = factor_positive (l.global.0 / l.local.0) l.local.0 (subst (λ n. 0 < n) whole.x.divides (some_items l whole item within))
 
-  -- an item whose id is below has just one turn, of no more than one for each id
-  one_turn : (from n stride : ℕ) → 0 < stride → n ≤ from + stride → from < n → turns_below from n stride ≡ 1
-  one_turn from n stride some low lt = turning.before from n stride some lt ∙ ap suc (turning.past (from + stride) n stride low)
-
-  module _ (n : ℕ) (B : TurnCode) (m : ℕ) (ts : List ℕ) (each : (vs : List ℕ) (i : ℕ) → i < n → (code rest : Code) → B vs i code rest → total weight load store sync counts l item code ≡ m + total weight load store sync counts l item rest) where
-    abbrev start : ℕ
-    start = (ids_of l item).x.local_id
-
-    abbrev size : ℕ
-    size = l.local.0
-
-    zeroth : (ids_of l item).x.local_id ≡ (ids_of l item).x.local_id + 0 * l.local.0
-    zeroth = omega arith
-
-    turned : (f : MapForm) → MakesTurns f n l → (code rest : Code) → AreTurns l item ins f Local ts n B code rest → total weight load store sync counts l item code ≡ turns_of (ids_of l item) Local n * m + total weight load store sync counts l item rest
-    turned Looped makes code rest h =
-        ap (total weight load store sync counts l item) h.2 ∙ ap (λ z. turns_below start (or_zero z) size * total weight load store sync counts l item h.1 + total weight load store sync counts l item rest) h.3
-        ∙ ap (λ z. z + total weight load store sync counts l item rest) (⊎_elim some none (cases_lt start n))
-      where
-        some : start < n → turns_below start n size * total weight load store sync counts l item h.1 ≡ turns_below start n size * m
-        some lt = ap (λ z. turns_below start n size * z) (each _ start lt h.1 End (h.4 start lt (0, zeroth)) ∙ (let e : m + 0 ≡ m = omega arith in e))
-
-        none : n ≤ start → turns_below start n size * total weight load store sync counts l item h.1 ≡ turns_below start n size * m
-        none le = ap (λ z. z * total weight load store sync counts l item h.1) (turning.past start n size le) ∙ (let a = total weight load store sync counts l item h.1 in let z : 0 * a ≡ 0 * m = omega arith in z) ∙ ap (λ z. z * m) (sym (turning.past start n size le))
-    turned Guarded makes code rest h =
-        ap (total weight load store sync counts l item) h.2 ∙ ap (λ z. once (nat_lt start (or_zero z)) * total weight load store sync counts l item h.1 + total weight load store sync counts l item rest) h.3
-        ∙ ap (λ z. z + total weight load store sync counts l item rest) (⊎_elim some none (cases_lt start n))
-      where
-        some : start < n → once (nat_lt start n) * total weight load store sync counts l item h.1 ≡ turns_below start n size * m
-        some lt =
-            let one = one_turn start n size whole.x.positive (omega arith) lt in
-            let body = each _ start lt h.1 End (h.4 start lt refl) in
-            let is = lt-ltb start n lt in
-            ap (λ z. once z * total weight load store sync counts l item h.1) is ∙ (let a = total weight load store sync counts l item h.1 in let e : 1 * a ≡ 1 * m = omega arith in e) ∙ ap (λ z. z * m) (sym one)
-
-        none : n ≤ start → once (nat_lt start n) * total weight load store sync counts l item h.1 ≡ turns_below start n size * m
-        none le = ap (λ z. once z * total weight load store sync counts l item h.1) (not_below start n le) ∙ (let a = total weight load store sync counts l item h.1 in let z : 0 * a ≡ 0 * m = omega arith in z) ∙ ap (λ z. z * m) (sym (turning.past start n size le))
-    turned Alone makes code rest h =
-        let lt : start < n = subst (λ z. start < z) (sym makes) local_below in
-        each ts start lt code rest (h start lt refl) ∙ ap (λ z. z + total weight load store sync counts l item rest) ((let e : m ≡ 1 * m = omega arith in e) ∙ ap (λ z. z * m) (sym (one_turn start n size whole.x.positive (omega arith) lt)))
+  -- a local map's turns, in whatever form
+  local_turned : (n : ℕ) (B : TurnCode) (m : ℕ) (ts : List ℕ) → ((vs : List ℕ) (i : ℕ) → i < n → (code rest : Code) → B vs i code rest → total weight load store sync counts l item code ≡ m + total weight load store sync counts l item rest)
+      → (f : MapForm) → MakesTurns f n l → (code rest : Code) → AreTurns l item ins f Local ts n B code rest → total weight load store sync counts l item code ≡ turns_of (ids_of l item) Local n * m + total weight load store sync counts l item rest
+  local_turned n B m ts each Looped makes code rest h = turned weight load store sync counts l item turning (FromLocalId X) (ByLocalSize X) local_below n B m ts each Looped makes code rest h
+  local_turned n B m ts each Guarded makes code rest h = turned weight load store sync counts l item turning (FromLocalId X) (ByLocalSize X) local_below n B m ts each Guarded makes code rest h
+  local_turned n B m ts each Alone makes code rest h = turned weight load store sync counts l item turning (FromLocalId X) (ByLocalSize X) local_below n B m ts each Alone makes code rest h
 
   module _ {A : Type 0} (num : A → ℕ) (forms : MapForms A) (make : MakeTurns forms num l) (fence : ℕ → Fencing) (outer : MapForm) (turns i : ℕ) (below : i < turns) (turn : IsTurnOf l item WorkGroup i) where
     local_copies : (env : (turn var : ℕ) → Marks) (u : Used) (t : Term A) (code rest : Code) → IsGroupArgument num forms l ins fence outer turns env u t code rest → CopiesTo LocalMemory t
@@ -154,7 +110,7 @@ module _ (weight : Statement → ℕ) (load store : Region → ℕ) (sync : ℕ)
         → total weight load store sync counts l item code
         ≡ turns_of (ids_of l item) Local (num n) * (loads_in load loads from + written_traffic load store num (ids_of l item) (push (regions_left loads from) regions) b r) + total weight load store sync counts l item rest
     local_map env regions u n loads marks from b w r code rest short all lie goes h =
-        turned (num n) _ (loads_in load loads from + written_traffic load store num (ids_of l item) (push (regions_left loads from) regions) b r) (variables_in outer [] i)
+        local_turned (num n) _ (loads_in load loads from + written_traffic load store num (ids_of l item) (push (regions_left loads from) regions) b r) (variables_in outer [] i)
         (λ ts j lt body last t.
         let one = loaded weight load store sync counts l item ins ts loads (at_index j (marks i)) from u.variables body t.0 (λ cs q. lie cs (j ∷ q)) t.1 in
         let two = written_counts weight load store sync counts l item ins inputs turning num ts (push (loaded_marks loads (at_index j (marks i)) u.variables) (env i)) (push (regions_left loads from) regions) u.privates (u.variables + load_count loads) b (at_index j (w i)) r t.0 last
@@ -198,13 +154,16 @@ module _ (weight : Statement → ℕ) (load store : Region → ℕ) (sync : ℕ)
           omega arith
       group_written env regions u (Map Local n loads xs b) w r code rest few all goes h =
           let first = group_argument env regions u xs code h.0 few.1 all h.2 in
-          let fences = past (fence (u.phases + phases_in xs)) h.0 h.1 h.3 in
+          let fences = past weight load store sync counts l item (fence (u.phases + phases_in xs)) h.0 h.1 h.3 in
           let e : sync * barriers_to fence (u.phases + (phases_in xs + 1)) ≡ sync * (barriers_to fence (u.phases + phases_in xs) + bit (stands (fence (u.phases + phases_in xs)))) = ap (λ z. sync * barriers_to fence z) (let p : u.phases + (phases_in xs + 1) ≡ suc (u.phases + phases_in xs) = omega arith in p) in
           let f : sync * (barriers_to fence (u.phases + phases_in xs) + bit (stands (fence (u.phases + phases_in xs)))) ≡ sync * barriers_to fence (u.phases + phases_in xs) + sync * bit (stands (fence (u.phases + phases_in xs))) = distributed (barriers_to fence (u.phases + phases_in xs)) (bit (stands (fence (u.phases + phases_in xs)))) in
           let body = local_map env regions (used_after u xs) n loads (marks_of num ins env u.locals xs) (regions_of regions xs) b w r h.1 rest few.0 all (lies env regions u xs code h.0 all h.2) goes h.4 in
           omega arith
       group_written env regions u (Map Global n loads xs b) w r code rest few all goes h = absurd h
       group_written env regions u (Map WorkGroup n loads xs b) w r code rest few all goes h = absurd h
+      group_written env regions u (Map GlobalRows n loads xs b) w r code rest few all goes h = absurd h
+      group_written env regions u (Map WorkGroupRows n loads xs b) w r code rest few all goes h = absurd h
+      group_written env regions u (Map LocalRows n loads xs b) w r code rest few all goes h = absurd h
       group_written env regions u (Map Sequential n loads xs b) w r code rest few all goes h = absurd h
       group_written env regions u _ w r code rest few all goes h = absurd h
 
@@ -222,36 +181,15 @@ module _ (weight : Statement → ℕ) (load store : Region → ℕ) (sync : ℕ)
         let two = group_written num forms make fence outer turns i below turn (λ j. push (loaded_marks loads (at_index j marks) 0) env) (push (regions_left loads from) regions)
         (record { locals = 0; privates = 0; variables = load_count loads; phases = 0 }) b (λ j. at_index j w) r h.0 h.1 few
         (pushed (loaded_marks loads (at_index i marks) 0) (regions_left loads from) env regions (loaded_lies loads (at_index i marks) from 0 (λ cs q. lie cs (i ∷ q))) all) (λ cs q. goes cs (i ∷ q)) h.3 in
-        let last = past (fence (phases_in b)) h.1 End h.4 in
+        let last = past weight load store sync counts l item (fence (phases_in b)) h.1 End h.4 in
         let none : sync * barriers_to fence 0 ≡ 0 = omega arith in
         let here : sync * barriers_to fence (0 + phases_in b) ≡ sync * barriers_to fence (phases_in b) = ap (λ z. sync * barriers_to fence z) (let e : 0 + phases_in b ≡ phases_in b = omega arith in e) in
         let more = distributed num forms make fence outer turns i below turn (barriers_to fence (phases_in b)) (bit (stands (fence (phases_in b)))) in
         omega arith
 
-    zeroth_turn : IsTurnOf l item WorkGroup (ids_of l item).x.group_id
-    zeroth_turn = (0, (let e : (ids_of l item).x.group_id ≡ (ids_of l item).x.group_id + 0 * (ids_of l item).x.group_count = omega arith in e))
-
-    -- the statement over groups counts its turns times that
-    over_form : (once_only : Bool) (n : ℕ) → (once_only ≡ true → n ≡ 1) → (bound : Formula) (body : Code) (m : ℕ) → bound_value l.sizes bound ≡ Some n → ((i : ℕ) → i < n → IsTurnOf l item WorkGroup i → total weight load store sync counts l item body ≡ m)
-        → total weight load store sync counts l item (statement_over_groups once_only bound body) ≡ turns_of (ids_of l item) WorkGroup n * m
-    over_form false n makes bound body m is each =
-        let g = (ids_of l item).x.group_id in
-        let c = (ids_of l item).x.group_count in
-        ap (λ z. turns_below g (or_zero z) c * total weight load store sync counts l item body + 0) is ∙ (let a = turns_below g n c * total weight load store sync counts l item body in let e : a + 0 ≡ a = omega arith in e)
-        ∙ ⊎_elim
-        (λ lt. ap (λ z. turns_below g n c * z) (each g lt zeroth_turn))
-        (λ le. ap (λ z. z * total weight load store sync counts l item body) (turning.past g n c le) ∙ (let a = total weight load store sync counts l item body in let z : 0 * a ≡ 0 * m = omega arith in z) ∙ ap (λ z. z * m) (sym (turning.past g n c le)))
-        (cases_lt g n)
-    over_form true n makes bound body m is each =
-        let g = (ids_of l item).x.group_id in
-        let c = (ids_of l item).x.group_count in
-        let some : 0 < c = some_groups in
-        ap (λ z. once (nat_lt g (or_zero z)) * total weight load store sync counts l item body + 0) is ∙ (let a = once (nat_lt g n) * total weight load store sync counts l item body in let e : a + 0 ≡ a = omega arith in e)
-        ∙ ⊎_elim
-        (λ lt. ap (λ z. once z * total weight load store sync counts l item body) (lt-ltb g n lt) ∙ (let a = total weight load store sync counts l item body in let b = each g lt zeroth_turn in let e : 1 * a ≡ 1 * m = omega arith in e)
-        ∙ ap (λ z. z * m) (sym (one_turn g n c some (let one = makes refl in omega arith) lt)))
-        (λ le. ap (λ z. once z * total weight load store sync counts l item body) (not_below g n le) ∙ (let a = total weight load store sync counts l item body in let z : 0 * a ≡ 0 * m = omega arith in z) ∙ ap (λ z. z * m) (sym (turning.past g n c le)))
-        (cases_lt g n)
+    same_statement : (once_only : Bool) (bound : Formula) (body : Code) → statement_over_groups once_only bound body ≡ statement_of (form_over_groups once_only) (FromGroupId X) (ByGroupCount X) bound body
+    same_statement false bound body = refl
+    same_statement true bound body = refl
 
     pub over_groups : (env : ℕ → Marks) (regions : ℕ → Regions) (t : Term A) (w : Marks) (r : Regions) (code : Code) → StandsOverGroups t → HasShortLoops num t → AllLieIn env regions → LieIn w r → IsOverGroups num forms l ins fence env t w code
         → total weight load store sync counts l item code ≡ written_traffic load store num (ids_of l item) regions t r + sync * releases_of num (ids_of l item) fence t
@@ -265,9 +203,9 @@ module _ (weight : Statement → ℕ) (load store : Region → ℕ) (sync : ℕ)
     over_groups env regions (Map WorkGroup n loads xs b) w r code stand few all goes h =
         let lie = argument_lies num ins inputs PrivateMemory env regions 0 xs all (of_inputs PrivateMemory xs stand.0) in
         let none = idle load store num l item regions xs stand.0 in
-        let made = over_form (forms.once n) (num n) (make.once n) h.0 h.1 (each_turn regions loads (regions_of regions xs) b r) h.3
+        let made = over_form weight load store sync counts l item turning (FromGroupId X) (ByGroupCount X) some_groups (forms.once n) (num n) (make.once n) h.0 h.1 (each_turn regions loads (regions_of regions xs) b r) h.3
         (λ i below turn. turn_counts (form_over_groups (forms.once n)) (num n) i below turn env regions loads (argument_marks l ins num env 0 xs) (regions_of regions xs) b w r h.1 few.2 all lie goes h.4) in
-        let is = ap (total weight load store sync counts l item) h.2 in
+        let is = ap (total weight load store sync counts l item) (h.2 ∙ same_statement (forms.once n) h.0 h.1) in
         let t = turns_of (ids_of l item) WorkGroup (num n) in
         let m = loads_in load loads (regions_of regions xs) + written_traffic load store num (ids_of l item) (push (regions_left loads (regions_of regions xs)) regions) b r in
         let s = barriers_to fence (suc (phases_in b)) in
@@ -276,7 +214,4 @@ module _ (weight : Statement → ℕ) (load store : Region → ℕ) (sync : ℕ)
       where
         parted : (t m s : ℕ) → t * (m + sync * s) ≡ t * m + sync * (t * s)
         parted t m s = grind arith
-    over_groups env regions (Map Global n loads xs b) w r code stand few all goes h = absurd h
-    over_groups env regions (Map Local n loads xs b) w r code stand few all goes h = absurd h
-    over_groups env regions (Map Sequential n loads xs b) w r code stand few all goes h = absurd h
-    over_groups env regions _ w r code stand few all goes h = absurd h
+    over_groups env regions _ w r code stand few all goes h = absurd stand

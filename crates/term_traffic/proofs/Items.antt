@@ -4,14 +4,14 @@ use Rattle.kernel_tree.specs.Code.{Private, Statement, Code, End}
 use Rattle.kernel_tree.specs.Launch.{Launch, ids_of}
 use Rattle.lift_ir.specs.Types.{Ty, Scalar, PairOf, ArrayOf, width}
 use Rattle.lift_ir.specs.Layouts.{operand_position, result_position}
-use Rattle.lift_ir.specs.Terms.{LoadSet, Skip, Take, Each, Global, Sequential, WorkGroup, Local, Space, LocalMemory, PrivateMemory, Term, Bound, Source, Both, Project, Reshape, LetArray, LetElement, Map, Fold, Store, Copy, push}
+use Rattle.lift_ir.specs.Terms.{LoadSet, Skip, Take, Each, Global, WorkGroup, Local, GlobalRows, WorkGroupRows, LocalRows, Sequential, Space, LocalMemory, PrivateMemory, Term, Bound, Source, Both, Project, Reshape, LetArray, LetElement, Map, Fold, Store, Copy, push}
 use Rattle.lift_ir.specs.Scalars.{at_index}
 use Rattle.printed_form.specs.Arguments.{private_arrays, local_arrays, arrays_of, marks_in}
 use Rattle.printed_form.specs.Counts.{let_variables, load_count, variable_count, private_count}
 use Rattle.printed_form.specs.Expressions.{held, exprs}
 use Rattle.printed_form.specs.Form.{argument_marks, IsArgumentWork, IsWritten, IsFoldTurn}
 use Rattle.printed_form.specs.Marks.{Marks, laid_in, held_marks, loaded_marks}
-use Rattle.printed_form.specs.Whole.{IsOverLaunch}
+use Rattle.printed_form.specs.Whole.{IsAlongRow, IsOverLaunch}
 use Rattle.kernel_traffic.specs.Laws.{TurnsGoOneByOne}
 use Rattle.term_traffic.specs.Regions.{Region, NoMemory, InGlobal, InPrivate, region_in, Regions, all_in, regions_of, regions_left}
 use Rattle.term_traffic.specs.Traffic.{turns_of, loads_in, stores_in, argument_traffic, written_traffic, uncounted}
@@ -133,6 +133,9 @@ module _ (weight : Statement → ℕ) (load store : Region → ℕ) (sync : ℕ)
       written_counts ts env regions a n (Map Global len loads xs b) w r code rest all goes h = absurd h
       written_counts ts env regions a n (Map WorkGroup len loads xs b) w r code rest all goes h = absurd h
       written_counts ts env regions a n (Map Local len loads xs b) w r code rest all goes h = absurd h
+      written_counts ts env regions a n (Map GlobalRows len loads xs b) w r code rest all goes h = absurd h
+      written_counts ts env regions a n (Map WorkGroupRows len loads xs b) w r code rest all goes h = absurd h
+      written_counts ts env regions a n (Map LocalRows len loads xs b) w r code rest all goes h = absurd h
       written_counts ts env regions a n (Fold len loads ty xs s b) w r code rest all goes h =
           let first = argument_counts ts env regions a n xs code h.0 all h.4 in
           let lie = lies ts env regions a n xs code h.0 all h.4 in
@@ -145,6 +148,31 @@ module _ (weight : Statement → ℕ) (load store : Region → ℕ) (sync : ℕ)
           omega arith
       written_counts ts env regions a n _ w r code rest all goes h = absurd h
 
+    -- a map along a row
+    row_counts : (ts : List ℕ) (env : ℕ → Marks) (regions : ℕ → Regions) (a n : ℕ) (t : Term A) (w : Marks) (r : Regions) (code rest : Code) → AllLieIn env regions → LieIn w r → IsAlongRow l item ins num ts env a n t w code rest
+        → total weight load store sync counts l item code ≡ written_traffic load store num (ids_of l item) regions t r + total weight load store sync counts l item rest
+    row_counts ts env regions a n (Reshape y t) w r code rest all goes h =
+        row_counts ts env regions a n t (λ cs q. w cs (result_position num y q)) r code rest all (λ cs q. goes cs (result_position num y q)) h.1
+    row_counts ts env regions a n (Map Global len loads xs b) w r code rest all goes h =
+        let first = argument_counts ts env regions a n xs code h.0 all h.1 in
+        let lie = lies ts env regions a n xs code h.0 all h.1 in
+        let m = loads_in load loads (regions_of regions xs) + written_traffic load store num (ids_of l item) (push (regions_left loads (regions_of regions xs)) regions) b r in
+        let second = looped weight load store sync counts l item ins turning Global (num len) _ m h.0 rest
+        (λ i lt turn body t.
+        let one = loaded weight load store sync counts l item ins (ts ++ i ∷ []) loads (at_index i (argument_marks l ins num env a xs)) (regions_of regions xs) (n + variable_count xs) body t.0 (element_lies (argument_marks l ins num env a xs) (regions_of regions xs) i lie) t.1 in
+        let two = written_counts (ts ++ i ∷ []) (push (loaded_marks loads (at_index i (argument_marks l ins num env a xs)) (n + variable_count xs)) env) (push (regions_left loads (regions_of regions xs)) regions) (a + private_count xs) (n + variable_count xs + load_count loads) b (at_index i w) r t.0 End
+        (pushed (loaded_marks loads (at_index i (argument_marks l ins num env a xs)) (n + variable_count xs)) (regions_left loads (regions_of regions xs)) env regions (loaded_lies loads (at_index i (argument_marks l ins num env a xs)) (regions_of regions xs) (n + variable_count xs) (element_lies (argument_marks l ins num env a xs) (regions_of regions xs) i lie)) all)
+        (element_lies w r i goes) t.2 in
+        omega arith) h.2 in
+        omega arith
+    row_counts ts env regions a n (Map Sequential len loads xs b) w r code rest all goes h = absurd h
+    row_counts ts env regions a n (Map WorkGroup len loads xs b) w r code rest all goes h = absurd h
+    row_counts ts env regions a n (Map Local len loads xs b) w r code rest all goes h = absurd h
+    row_counts ts env regions a n (Map GlobalRows len loads xs b) w r code rest all goes h = absurd h
+    row_counts ts env regions a n (Map WorkGroupRows len loads xs b) w r code rest all goes h = absurd h
+    row_counts ts env regions a n (Map LocalRows len loads xs b) w r code rest all goes h = absurd h
+    row_counts ts env regions a n _ w r code rest all goes h = absurd h
+
     pub launch_counts : (env : ℕ → Marks) (regions : ℕ → Regions) (a n : ℕ) (t : Term A) (w : Marks) (r : Regions) (code rest : Code) → AllLieIn env regions → LieIn w r → IsOverLaunch l item ins num env a n t w code rest
         → total weight load store sync counts l item code ≡ written_traffic load store num (ids_of l item) regions t r + total weight load store sync counts l item rest
     launch_counts env regions a n (Reshape y t) w r code rest all goes h =
@@ -154,14 +182,15 @@ module _ (weight : Statement → ℕ) (load store : Region → ℕ) (sync : ℕ)
         let second = launch_counts (push (argument_marks l ins num env a v) env) (push (regions_of regions v) regions) (a + private_count v) (n + variable_count v) b w r h.0 rest
         (pushed (argument_marks l ins num env a v) (regions_of regions v) env regions (lies [] env regions a n v code h.0 all h.1) all) goes h.2 in
         omega arith
-    launch_counts env regions a n (Map Global len loads xs b) w r code rest all goes h =
+    launch_counts env regions a n (Map Global len loads xs b) w r code rest all goes h = row_counts [] env regions a n (Map Global len loads xs b) w r code rest all goes h
+    launch_counts env regions a n (Map GlobalRows len loads xs b) w r code rest all goes h =
         let first = argument_counts [] env regions a n xs code h.0 all h.1 in
         let lie = lies [] env regions a n xs code h.0 all h.1 in
         let m = loads_in load loads (regions_of regions xs) + written_traffic load store num (ids_of l item) (push (regions_left loads (regions_of regions xs)) regions) b r in
-        let second = looped weight load store sync counts l item ins turning Global (num len) _ m h.0 rest
+        let second = looped weight load store sync counts l item ins turning GlobalRows (num len) _ m h.0 rest
         (λ i lt turn body t.
         let one = loaded weight load store sync counts l item ins ([] ++ i ∷ []) loads (at_index i (argument_marks l ins num env a xs)) (regions_of regions xs) (n + variable_count xs) body t.0 (element_lies (argument_marks l ins num env a xs) (regions_of regions xs) i lie) t.1 in
-        let two = written_counts ([] ++ i ∷ []) (push (loaded_marks loads (at_index i (argument_marks l ins num env a xs)) (n + variable_count xs)) env) (push (regions_left loads (regions_of regions xs)) regions) (a + private_count xs) (n + variable_count xs + load_count loads) b (at_index i w) r t.0 End
+        let two = row_counts ([] ++ i ∷ []) (push (loaded_marks loads (at_index i (argument_marks l ins num env a xs)) (n + variable_count xs)) env) (push (regions_left loads (regions_of regions xs)) regions) (a + private_count xs) (n + variable_count xs + load_count loads) b (at_index i w) r t.0 End
         (pushed (loaded_marks loads (at_index i (argument_marks l ins num env a xs)) (n + variable_count xs)) (regions_left loads (regions_of regions xs)) env regions (loaded_lies loads (at_index i (argument_marks l ins num env a xs)) (regions_of regions xs) (n + variable_count xs) (element_lies (argument_marks l ins num env a xs) (regions_of regions xs) i lie)) all)
         (element_lies w r i goes) t.2 in
         omega arith) h.2 in
@@ -169,6 +198,8 @@ module _ (weight : Statement → ℕ) (load store : Region → ℕ) (sync : ℕ)
     launch_counts env regions a n (Map Sequential len loads xs b) w r code rest all goes h = absurd h
     launch_counts env regions a n (Map WorkGroup len loads xs b) w r code rest all goes h = absurd h
     launch_counts env regions a n (Map Local len loads xs b) w r code rest all goes h = absurd h
+    launch_counts env regions a n (Map WorkGroupRows len loads xs b) w r code rest all goes h = absurd h
+    launch_counts env regions a n (Map LocalRows len loads xs b) w r code rest all goes h = absurd h
     launch_counts env regions a n _ w r code rest all goes h = absurd h
 
 times : (n m : ℕ) → m ≡ 0 → n * m ≡ 0

@@ -1,5 +1,5 @@
 -- Every run of a printed kernel that can't go on has its term's traffic.
-use Rattle.std.proofs.Common.{◌≡◌, ℕ, zero, suc, ◌+◌, ◌*◌, ◌<◌, true, List, [], inl, inr, refl, ap, ◌∙◌, subst, arith}
+use Rattle.std.proofs.Common.{◌≡◌, ℕ, zero, suc, ◌+◌, ◌*◌, ◌<◌, true, List, [], inl, inr, refl, sym, ap, ◌∙◌, subst, arith}
 use Rattle.std.specs.Prelude.{◌&&◌}
 use Rattle.size_arith.specs.declared.poly.Monomial.{Monomial}
 use Rattle.kernel_tree.specs.Code as code
@@ -17,7 +17,7 @@ use Rattle.lift_tree.specs.Typing.{Declared}
 use Rattle.lift_ir.specs.AtLaunch.{length_at, ty_at}
 use Rattle.lift_ir.specs.Forms.{Stands, StandsOverLaunch}
 use Rattle.lift_ir.specs.Lowering.{Lowered}
-use Rattle.lift_ir.specs.Terms.{Global, WorkGroup, Local, Sequential, Term, Reshape, LetArray, Map, no_type}
+use Rattle.lift_ir.specs.Terms.{Global, WorkGroup, Local, GlobalRows, WorkGroupRows, LocalRows, Sequential, Term, Reshape, LetArray, Map, no_type}
 use Rattle.lift_ir.specs.Types.{Ty, measured}
 use Rattle.printed_form.specs.Marks.{Marks}
 use Rattle.printed_form.specs.Printer.{input_marks}
@@ -28,17 +28,22 @@ use Rattle.printed_form.proofs.Programs as programs
 use Rattle.group_form.specs.ChosenForms.{forms_of}
 use Rattle.group_form.specs.Form.{is_once}
 use Rattle.group_form.specs.Forms.{StandsOverGroups}
-use Rattle.group_form.specs.Kernels.{Printer, OfItems, OfGroups, StandsForLaunch, AreNeededBy, PrintsBy, KernelsKeep}
-use Rattle.group_form.specs.Programs.{PrintsGroups}
+use Rattle.group_form.specs.GridChosen.{grid_forms_of}
+use Rattle.group_form.specs.GridTerms.{StandsOverGrid, grid_touches}
+use Rattle.group_form.specs.GridTheorem.{is_once_over, grid_phase_count}
+use Rattle.group_form.specs.Kernels.{Printer, OfItems, OfGroups, OfGrids, StandsForLaunch, AreNeededBy, PrintsBy, KernelsKeep}
+use Rattle.group_form.specs.Programs.{PrintsGroups, PrintsGrids}
 use Rattle.group_form.specs.Uses.{phase_count, group_touches}
 use Rattle.group_form.proofs.ChosenForms.{forms_make_turns}
+use Rattle.group_form.proofs.GridChosen.{grid_forms_make_turns}
 use Rattle.kernel_traffic.specs.Laws.{CodeTellsAccesses, CodeTellsReleases, TurnsGoOneByOne}
 use Rattle.kernel_traffic.specs.Traffic.{Accesses, accesses_in, barriers_in}
 use Rattle.term_traffic.specs.Laws.{is_global, is_local, is_read, RunsHaveTraffic}
 use Rattle.term_traffic.specs.Regions.{Region, NoMemory, InGlobal, all_in}
-use Rattle.term_traffic.specs.Traffic.{ItemTraffic, written_traffic, in_global, in_local, uncounted, group_turns, barriers_to, releases_of}
+use Rattle.term_traffic.specs.Traffic.{ItemTraffic, written_traffic, in_global, in_local, uncounted, group_turns, barriers_to, turn_phases, releases_of}
 use Rattle.term_traffic.proofs.Codes.{Counts, AllLieIn, LieIn, region_of, total}
 use Rattle.term_traffic.proofs.Items.{written_counts, launch_counts, no_written}
+use Rattle.term_traffic.proofs.Grids.{over_grid}
 use Rattle.term_traffic.proofs.Groups.{over_groups}
 use Rattle.term_traffic.proofs.Short.{short_loops}
 
@@ -126,8 +131,11 @@ module _ {A : Type 0} (num : A → ℕ) (l : Launch) (item : ℕ) where
   no_groups (Reshape y t) h = no_groups t h.1
   no_groups (LetArray v b) h = no_groups b h.1
   no_groups (Map WorkGroup n loads xs b) h = absurd h
+  no_groups (Map WorkGroupRows n loads xs b) h = absurd h
   no_groups (Map Global n loads xs b) h = refl
   no_groups (Map Local n loads xs b) h = refl
+  no_groups (Map GlobalRows n loads xs b) h = refl
+  no_groups (Map LocalRows n loads xs b) h = refl
   no_groups (Map Sequential n loads xs b) h = refl
   no_groups _ h = refl
 
@@ -135,10 +143,26 @@ module _ {A : Type 0} (num : A → ℕ) (l : Launch) (item : ℕ) where
   no_groups_over (Reshape y t) h = no_groups_over t h.1
   no_groups_over (LetArray v b) h = no_groups_over b h.1
   no_groups_over (Map WorkGroup n loads xs b) h = absurd h
+  no_groups_over (Map WorkGroupRows n loads xs b) h = absurd h
   no_groups_over (Map Global n loads xs b) h = refl
   no_groups_over (Map Local n loads xs b) h = refl
+  no_groups_over (Map GlobalRows n loads xs b) h = refl
+  no_groups_over (Map LocalRows n loads xs b) h = refl
   no_groups_over (Map Sequential n loads xs b) h = refl
   no_groups_over _ h = refl
+
+-- which phases a turn has
+pub in_one_row : {A : Type 0} (t : Term A) → StandsOverGroups t → turn_phases t ≡ phase_count t
+in_one_row (Reshape y t) h = in_one_row t h.1
+in_one_row (LetArray v b) h = in_one_row b h.1
+in_one_row (Map WorkGroup n loads xs b) h = refl
+in_one_row _ h = absurd h
+
+pub in_rows : {A : Type 0} (t : Term A) → StandsOverGrid t → turn_phases t ≡ grid_phase_count t
+in_rows (Reshape y t) h = in_rows t h.1
+in_rows (LetArray v b) h = in_rows b h.1
+in_rows (Map WorkGroupRows n loads xs b) h = refl
+in_rows _ h = absurd h
 
 same_barriers : (n : ℕ) (f g : ℕ → Fencing) → ((q : ℕ) → q < n → f q ≡ g q) → barriers_to f n ≡ barriers_to g n
 same_barriers zero f g h = refl
@@ -147,7 +171,7 @@ same_barriers (suc n) f g h =
     let last = ap (λ x. bit (stands x)) (h n (omega arith)) in
     omega arith
 
-module _ (d : Declared) (asks : Asks) (bases : List ℕ) (t : Tree) (a : Annotation) (l : Launch) (k : Kernel) (program : IsLowerableProgram d bases t a) (launch : IsLaunchOf d asks bases l) (j : ℕ) (within : j < item_count l) (turning : TurnsGoOneByOne) where
+module _ (d : Declared) (asks : Asks) (bases : List ℕ) (t : Tree) (a : Annotation) (l : Launch) (k : Kernel) (program : IsLowerableProgram d bases t a) (launch : IsLaunchOf d asks bases t a l) (j : ℕ) (within : j < item_count l) (turning : TurnsGoOneByOne) where
   abbrev num : List Monomial → ℕ
   num = length_at bases
 
@@ -161,7 +185,7 @@ module _ (d : Declared) (asks : Asks) (bases : List ℕ) (t : Tree) (a : Annotat
   result = ty_at bases (type_in a)
 
   whole : IsWhole l
-  whole = programs.whole l asks d.names bases launch.flat launch.admissible
+  whole = programs.whole l asks d.names bases launch.admissible
 
   inputs_lie : AllLieIn ins (λ v. all_in InGlobal)
   inputs_lie v cs q = refl
@@ -181,7 +205,7 @@ module _ (d : Declared) (asks : Asks) (bases : List ℕ) (t : Tree) (a : Annotat
 
     nothing_more : (fence : ℕ → Fencing) (item : ℕ) → group_turns num (ids_of l item) low ≡ 0 → (code : Code) → total weight load store sync counts l item code ≡ written_traffic load store num (ids_of l item) (λ v. all_in NoMemory) low (all_in InGlobal) + 0 → Counted fence item code
     nothing_more fence item none code h =
-        let m = barriers_to fence (suc (phase_count low)) in
+        let m = barriers_to fence (suc (turn_phases low)) in
         let e : sync * (group_turns num (ids_of l item) low * m) ≡ 0 = ap (λ z. sync * (z * m)) none ∙ (let z : 0 * m ≡ 0 = omega arith in ap (λ y. sync * y) z) ∙ (omega arith) in
         omega arith
 
@@ -197,16 +221,32 @@ module _ (d : Declared) (asks : Asks) (bases : List ℕ) (t : Tree) (a : Annotat
     by_items fence stand (inr h) =
         nothing_more fence j (none j stand) k.code (launch_counts weight load store sync counts l j ins inputs_lie turning num no_marks (λ v. all_in NoMemory) 0 0 low (output_marks result) (all_in InGlobal) k.code End nowhere outputs_lie (h j within))
 
+    -- barriers that are the same to the end of a turn are as many
+    same_releases : (one other : ℕ → Fencing) (m : ℕ) → turn_phases low ≡ m → ((q : ℕ) → q < suc m → one q ≡ other q)
+        → written_traffic load store num (ids_of l j) (λ v. all_in NoMemory) low (all_in InGlobal) + sync * releases_of num (ids_of l j) one low
+        ≡ written_traffic load store num (ids_of l j) (λ v. all_in NoMemory) low (all_in InGlobal) + sync * releases_of num (ids_of l j) other low
+    same_releases one other m is same =
+        ap (λ z. written_traffic load store num (ids_of l j) (λ v. all_in NoMemory) low (all_in InGlobal) + sync * (group_turns num (ids_of l j) low * z))
+        (subst (λ z. barriers_to one (suc z) ≡ barriers_to other (suc z)) (sym is) (same_barriers (suc m) one other same))
+
     by_groups : (fence : ℕ → Fencing) → NeededBarriersAreDetermined → StandsOverGroups low → AreNeededBy OfGroups d asks.local fence t a → PrintsGroups d asks.local bases t a l k → Counted fence j k.code
     by_groups fence determined stand needed printed =
         over_groups weight load store sync counts l whole j within ins inputs_lie turning num (forms_of d.names asks.local) (forms_make_turns d.names bases program.declared.names launch.admissible.sizes l asks.local launch.admissible.fixed) printed.fence no_marks (λ v. all_in NoMemory) low (output_marks result) (all_in InGlobal) k.code
         stand (short_loops num (λ v. measured (length_at bases) (input_shape d.inputs v)) no_type low result (lowered_has d asks bases t a l program launch)) nowhere outputs_lie printed.code
-        ∙ ap (λ z. written_traffic load store num (ids_of l j) (λ v. all_in NoMemory) low (all_in InGlobal) + sync * (group_turns num (ids_of l j) low * z))
-        (same_barriers (suc (phase_count low)) printed.fence fence (λ q lt. determined (group_touches low) (is_once (forms_of d.names asks.local) low) (phase_count low) printed.fence fence printed.needed needed q (omega arith)))
+        ∙ same_releases printed.fence fence (phase_count low) (in_one_row low stand)
+        (λ q lt. determined (group_touches low) (is_once (forms_of d.names asks.local) low) (phase_count low) printed.fence fence printed.needed needed q (omega arith))
+
+    by_grids : (fence : ℕ → Fencing) → NeededBarriersAreDetermined → StandsOverGrid low → AreNeededBy OfGrids d asks.local fence t a → PrintsGrids d asks.local bases t a l k → Counted fence j k.code
+    by_grids fence determined stand needed printed =
+        over_grid weight load store sync counts l whole j within ins inputs_lie turning num (grid_forms_of d.names asks.local) (grid_forms_make_turns d.names bases l asks.local program.declared.names launch.admissible.sizes launch.admissible.fixed).0 printed.fence no_marks (λ v. all_in NoMemory) low (output_marks result) (all_in InGlobal) k.code
+        stand (short_loops num (λ v. measured (length_at bases) (input_shape d.inputs v)) no_type low result (lowered_has d asks bases t a l program launch)) nowhere outputs_lie printed.code
+        ∙ same_releases printed.fence fence (grid_phase_count low) (in_rows low stand)
+        (λ q lt. determined (grid_touches low) (is_once_over (grid_forms_of d.names asks.local) low) (grid_phase_count low) printed.fence fence printed.needed needed q (omega arith))
 
     pub by_printer : (p : Printer) (fence : ℕ → Fencing) → NeededBarriersAreDetermined → StandsForLaunch p l low → AreNeededBy p d asks.local fence t a → PrintsBy p d asks.local bases t a l k → Counted fence j k.code
     by_printer OfItems fence determined stand needed printed = by_items fence stand printed.code
     by_printer OfGroups fence determined stand needed printed = by_groups fence determined stand needed printed
+    by_printer OfGrids fence determined stand needed printed = by_grids fence determined stand needed printed
 
 abbrev traffic : (a b c d : ℕ) → ItemTraffic
 traffic a b c d = record { global_loads = a; global_stores = b; local_loads = c; local_stores = d }
@@ -225,7 +265,7 @@ runs_have_traffic keep determined accesses releases turning p d asks w t a l k c
     let kept = keep p d asks w t a l k c program stand ok launch buffers printed s es start r in
     let no_failure = kept.leaves.faultless.no_failure in
     let ended = kept.leaves.ended stuck j within in
-    let whole = programs.whole l asks d.names w.bases launch.flat launch.admissible in
+    let whole = programs.whole l asks d.names w.bases launch.admissible in
     let num = length_at w.bases in
     let low = lowered_root d.names t a in
     let counted = λ (q : Accesses) (load store : Region → ℕ) (counts : Counts (accesses_in q) load store 0).

@@ -72,7 +72,7 @@ RunsHaveTraffic =
     (p : Printer) (d : Declared) (asks : Asks) (w : World) (t : Tree) (a : Annotation) (l : Launch)
     (k : Kernel) (c : Cells) (fence : ℕ → Fencing) (s : State) (es : List Event) (item : ℕ)
     → IsLowerableProgram d w.bases t a → StandsForLaunch p l (lowered_root d.names t a)
-    → IsAdmissible d w → IsLaunchOf d asks w.bases l → AreBuffersOf d w t a c
+    → IsAdmissible d w → IsLaunchOf d asks w.bases t a l → AreBuffersOf d w t a c
     → PrintsBy p d asks.local w.bases t a l k → AreNeededBy p d asks.local fence t a
     → IsStart k l c s → IsRun (device_of k l c) s es
     → IsStuck (device_of k l c) (run (device_of k l c) s es) → item < item_count l

@@ -25,6 +25,6 @@ from_child i (Some (p, r)) = Some (i ∷ p, r)
 from_child i None = None
 
 -- why a term isn't printed
-abbrev pub Refuses : NestNo → Option ℕ → Tree → Annotation → Type 0
+abbrev pub Refuses : NestNo → Option (ℕ × ℕ) → Tree → Annotation → Type 0
 Refuses (Nest place rule) local t n = nest_fault local t n ≡ Some (place, rule)
 Refuses Memory local t n = Unit {0}

@@ -119,7 +119,7 @@ fn first_in(rules: &[NestRule], node: Node<'_>, alloc: Global) -> Result<Option<
 // that of a fixed local size behind the root's own.
 fn first_in_whole(
     root: Node<'_>,
-    local: Option<u32>,
+    local: Option<(u32, u32)>,
     alloc: Global,
 ) -> Result<Option<Broken>, AllocError>
     ensures { IfOk result (λ b. found b
@@ -132,7 +132,11 @@ fn first_in_whole(
 }
 
 // A cut between two kernels, wherever it is; else what else is broken first.
-fn fault(alloc: Global, lowered: &Lowered, local: Option<u32>) -> Result<Option<Broken>, AllocError>
+fn fault(
+    alloc: Global,
+    lowered: &Lowered,
+    local: Option<(u32, u32)>,
+) -> Result<Option<Broken>, AllocError>
     ensures { IfOk result (λ b. found b
         ≡ nest_fault local (tree_of lowered.now.term) (annotation_of lowered.now.types)) }
 {

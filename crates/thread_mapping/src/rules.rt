@@ -5,16 +5,17 @@ ghost use Rattle.lift_tree.specs.Annotations.{annotation_of};
 ghost use Rattle.lift_tree.specs.Tree.{tree_of};
 ghost use Rattle.lowered_tree.specs.Nest.{broken_at, leaves_items_idle, lowest, size_rule};
 ghost use Rattle.lowered_tree.specs.Nodes.{own_site};
+ghost use Rattle.lowered_tree.specs.Pairs.{is_awaited};
 ghost use Rattle.lowered_tree.specs.declared.rule.NestRule.TheVariants.{N4, N5, N7};
 ghost use Rattle.thread_mapping.specs.Found.{writes_array};
 
 use lift_tree::term::Term;
-use lowered_tree::around::is_task;
+use lowered_tree::around::{has_rows, is_task};
 use lowered_tree::forms::{
-    copies_local_map, hangs_on_sizes, is_global_map, is_group_map, is_let_of_array,
+    copies_local_map, hangs_on_sizes, is_awaited, is_global_map, is_group_map, is_let_of_array,
     is_let_of_element, is_local_copy, is_local_map, is_lowered_fold, is_lowered_map,
     is_parallel_map, is_placed, is_private_copy, is_read_alone, is_sequential_map, is_then,
-    is_undecided,
+    is_undecided, is_unpaired,
 };
 use lowered_tree::node::Node;
 use lowered_tree::rule::NestRule;
@@ -25,6 +26,7 @@ fn has_work_of_a_group(node: Node<'_>) -> bool
 {
     node.around.in_group
         && !node.around.in_local
+        && !node.around.is_between
         && (is_sequential_map(node.term)
             || is_lowered_fold(node.term)
             || node.around.is_written && node.ty().is_element()
@@ -36,7 +38,10 @@ fn is_misplaced_copy(node: Node<'_>) -> bool
     ensures { result ≡ broken_at N5 (own_site node.entry) }
 {
     is_local_copy(node.term)
-        && (!node.around.in_group || node.around.in_local || !copies_local_map(node.term))
+        && (!node.around.in_group
+            || node.around.in_local
+            || node.around.in_rows
+            || !copies_local_map(node.term))
 }
 
 // Work in an argument that isn't copied, or an array that is let in an element term.
@@ -57,15 +62,25 @@ fn writes_array(node: Node<'_>) -> bool
     node.around.is_written && !node.ty().is_element()
 }
 
+// The inner map of a pair.
+fn is_inner(node: Node<'_>) -> bool
+    ensures { result ≡ is_awaited node.entry.around.awaited (tree_of node.entry.term.now) }
+{
+    is_awaited(node.around.awaited, node.term)
+}
+
 /// Whether the rule is broken at this node, which none of the whole is.
 pub fn breaks(rule: NestRule, node: Node<'_>) -> bool
     ensures { result ≡ broken_at rule (own_site node.entry) }
 {
     match rule {
         NestRule::N1 => is_undecided(node.term),
-        NestRule::N2 => is_local_map(node.term) && !node.around.is_next_to_group,
+        NestRule::N2 => {
+            is_local_map(node.term) && !node.around.is_next_to_group && !is_inner(node)
+        }
         NestRule::N3 => (is_global_map(node.term) || is_group_map(node.term))
-            && node.around.in_parallel,
+            && node.around.in_parallel
+            && !is_inner(node),
         NestRule::N4 => has_work_of_a_group(node),
         NestRule::N5 => is_misplaced_copy(node),
         NestRule::N6 => is_local_copy(node.term) && hangs_on_sizes(node.ty()),
@@ -78,21 +93,25 @@ pub fn breaks(rule: NestRule, node: Node<'_>) -> bool
         NestRule::N11 => writes_array(node) && is_placed(node.term),
         NestRule::N12 => false,
         NestRule::N13 => is_then(node.term),
+        NestRule::N14 => node.around.is_paired && is_unpaired(node.around.awaited, node.term),
     }
 }
 
-// A group would have more than one item, and one would do all the work of this whole term.
-fn leaves_items_idle(local: Option<u32>, whole: &Term) -> bool
+// A group would have more than one item, and one would do all the work of this whole term, or more
+// than one row of items, and one row would.
+fn leaves_items_idle(local: Option<(u32, u32)>, whole: &Term) -> bool
     ensures { result ≡ leaves_items_idle local (tree_of whole.now) }
 {
     match local {
-        Some(size) => 1 < size && is_task(whole),
+        Some((across, down)) => {
+            1 < across.saturating_mul(down) && is_task(whole) || 1 < down && !has_rows(whole)
+        }
         None => false,
     }
 }
 
 /// The rule that a local size breaks, where one is fixed for this whole term.
-pub fn size_rule(local: Option<u32>, whole: &Term) -> Option<NestRule>
+pub fn size_rule(local: Option<(u32, u32)>, whole: &Term) -> Option<NestRule>
     ensures { result ≡ size_rule local (tree_of whole.now) }
 {
     if leaves_items_idle(local, whole) {

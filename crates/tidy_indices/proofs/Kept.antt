@@ -3,8 +3,7 @@ use Rattle.std.proofs.Common.{◌≡◌, ℕ, Bool, true, false, Option, Some, N
 use Rattle.std.specs.Prelude.{◌∷◌, if◌then◌else◌}
 use Rattle.size_arith.specs.declared.names.Name.{Name}
 use Rattle.size_arith.specs.Ranges.{AreNames, Admissible, sizes_at}
-use Rattle.index_expr.specs.Expression as index
-use Rattle.index_expr.specs.Expression.{Expression, nodes, short_nodes}
+use Rattle.index_expr.specs.Expression.{Expression, short_nodes}
 use Rattle.kernel_tree.specs.Formula.{Formula, Ids, Vars, no_vars, value, sizes_alone}
 use Rattle.kernel_tree.specs.Launch.{ids_of}
 use Rattle.length_spelling.specs.Turns.{turns_of}
@@ -81,7 +80,7 @@ module _ (facts : Known) (names : List Name) (bases : List ℕ) (are : AreNames 
 
 pub keep_values : Known → TidyFormulasKeepValues
 keep_values facts names bases local l are ok same at = record {
-  index = λ item around loops variables f n stands is. kept facts names bases are ok local (ids_of l item) around loops variables f n same (of_item local l at item) stands is;
+  index = λ item around loops variables f n in_launch stands is. kept facts names bases are ok local (ids_of l item) around loops variables f n same (of_item local l at item in_launch) stands is;
   bound = λ b n is. kept facts names bases are ok local (sizes_alone l.sizes) [] [] no_vars b n same (of_none local l at l.sizes) tt is;
 }
 

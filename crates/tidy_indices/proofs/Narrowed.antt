@@ -46,7 +46,7 @@ module _ (lasts : List ℕ) where
   id_ends k g turns up_to le false = le
 
   pub are_within : (turns : List ℕ) → AreUpTo lasts turns → (e : Expression) → AreWithin turns e → AreWithin turns (narrowed lasts e)
-  are_within turns up_to (Variable k l g) h = (h.0, id_ends k g turns up_to h.1 (nat_lt k 2))
+  are_within turns up_to (Variable k l g) h = (h.0, id_ends k g turns up_to h.1 (nat_lt k 4))
   are_within turns up_to (Literal n) h = h
   are_within turns up_to (Size k) h = h
   are_within turns up_to (Binary o a b) h = (are_within turns up_to a h.0, are_within turns up_to b h.1)

@@ -8,9 +8,9 @@ use Rattle.index_expr.specs.declared.operation.Operation.{Operation}
 use Rattle.index_expr.specs.declared.operation.Operation.TheVariants.{Sum, Difference, Product, Quotient, Remainder, Least, Greatest}
 use Rattle.index_expr.specs.Expression as index
 use Rattle.index_expr.specs.Expression.{Expression}
-use Rattle.kernel_tree.specs.declared.tree.Dimension.TheVariants.{X}
+use Rattle.kernel_tree.specs.declared.tree.Dimension.TheVariants.{X, Y}
 use Rattle.kernel_tree.specs.Formula.{Formula, Number, Variable, LoopVariable, Size, Id, GroupId, LocalId, Binary, Choose}
-use Rattle.length_spelling.specs.Turns.{loop_turn, turn_formula}
+use Rattle.length_spelling.specs.Turns.{group_turn, local_turn, loop_turn, turn_formula}
 use Rattle.length_spelling.specs.Formulas.{index_formula, operator_of}
 use Rattle.length_spelling.specs.Laws.{AreWords}
 use Rattle.index_simplify.specs.Ranges.{AreWithin}
@@ -75,6 +75,8 @@ is_read (LoopVariable k) e h = subst (IsRead (LoopVariable k)) (numbered (loop_t
 is_read (Size k) e h = let same : index.Size k ≡ e = cc h in subst (IsRead (Size k)) same (size_read k)
 is_read (Id X GroupId) e h = let same : any_turn 0 ≡ e = cc h in subst (IsRead (Id X GroupId)) same (turn_read 0)
 is_read (Id X LocalId) e h = let same : any_turn 1 ≡ e = cc h in subst (IsRead (Id X LocalId)) same (turn_read 1)
+is_read (Id Y GroupId) e h = let same : any_turn 2 ≡ e = cc h in subst (IsRead (Id Y GroupId)) same (turn_read 2)
+is_read (Id Y LocalId) e h = let same : any_turn 3 ≡ e = cc h in subst (IsRead (Id Y LocalId)) same (turn_read 3)
 is_read (Id d form) e h = absurd (cc h)
 is_read (Binary o a b) e h = operation_read o (operation_of o) a b (reading a) (reading b) e refl (is_read a) (is_read b) h
 is_read (Choose c a b x y) e h = absurd (cc h)
@@ -98,8 +100,8 @@ index_reads (Number n) h = (index.Literal n, ap (λ (b : Bool). if b then Some (
 index_reads (Variable v) h = absurd h
 index_reads (LoopVariable k) h = (any_turn (loop_turn k), ap (λ (b : Bool). option_map any_turn (if b then Some (loop_turn k) else None)) (lt-ltb (loop_turn k) (2 ^ 32) h))
 index_reads (Size k) h = (index.Size k, refl)
-index_reads (Id X GroupId) h = (any_turn 0, refl)
-index_reads (Id X LocalId) h = (any_turn 1, refl)
+index_reads (Id d GroupId) h = (any_turn (group_turn d), refl)
+index_reads (Id d LocalId) h = (any_turn (local_turn d), refl)
 index_reads (Id d form) h = absurd h
 index_reads (Binary o a b) h =
     let p = operator_read o h.0 in

@@ -23,7 +23,7 @@ use Rattle.tidy_indices.specs.declared.spans.Span.{Span}
 use Rattle.tidy_indices.specs.Reading.{reading}
 use Rattle.tidy_indices.specs.Spans.{from_to, operated_on, span_of}
 use Rattle.tidy_indices.specs.Around.{Around, InLoop, InIf, StandsIn}
-use Rattle.tidy_indices.specs.Places.{PlainPlace, ranges_outside, without_turns, beyond_words, group_length, group_last, local_length, local_last, outside, in_loop_of, in_loop, inside, asked_turn, shorter, changed_at, with_turn_within, with_turn_in, in_if, guarded, within, within_all, place_of}
+use Rattle.tidy_indices.specs.Places.{PlainPlace, ranges_outside, without_turns, beyond_words, group_length, group_last, local_length, local_last, size_across, size_down, outside, in_loop_of, in_loop, inside, asked_turn, shorter, changed_at, with_turn_within, with_turn_in, in_if, guarded, within, within_all, place_of}
 use Rattle.tidy_indices.proofs.Known.{Known}
 use Rattle.tidy_indices.proofs.Items.{AreIds, limit}
 use Rattle.tidy_indices.proofs.Readings.{AreWide, is_read}
@@ -221,7 +221,9 @@ module _ (names : List Name) (sizes : List ℕ) (fit : AreWords sizes) (sizes_ar
   own_words : AreWords Outside
   own_words zero = omega arith
   own_words (suc zero) = omega arith
-  own_words (suc (suc k)) = omega arith
+  own_words (suc (suc zero)) = omega arith
+  own_words (suc (suc (suc zero))) = omega arith
+  own_words (suc (suc (suc (suc k)))) = omega arith
 
   -- what is known of an item's own turns
   word_length : (t : ℕ) → t < 2 ^ 32 → IsTurn beyond_words 4294967295 t
@@ -230,8 +232,8 @@ module _ (names : List Name) (sizes : List ℕ) (fit : AreWords sizes) (sizes_ar
   group_turn : (t : ℕ) → t < 65536 → IsTurn group_length group_last t
   group_turn t lt = record { count = 65536; length_is = λ turns words. refl; below = lt; last = omega arith; fits = omega arith }
 
-  own_turn : (local : Option (ℕ × ℕ)) (t : ℕ) → t < limit local → limit local ≤ 2 ^ 32 → IsTurn (local_length local) (local_last local) t
-  own_turn (Some size) t lt fits = record { count = size.0; length_is = λ turns words. refl; below = lt; last = omega arith; fits = omega arith }
+  own_turn : (size : Option ℕ) (t : ℕ) → t < limit size → limit size ≤ 2 ^ 32 → IsTurn (local_length size) (local_last size) t
+  own_turn (Some size) t lt fits = record { count = size; length_is = λ turns words. refl; below = lt; last = omega arith; fits = omega arith }
   own_turn None t lt fits = word_length t (omega arith)
 
   module _ (facts : Known) where
@@ -290,8 +292,8 @@ module _ (names : List Name) (sizes : List ℕ) (fit : AreWords sizes) (sizes_ar
       guarded_holds : (p : PlainPlace) (loops : List ℕ) (s : Start) (b : Formula) (n : ℕ) → Holds p (turns_of ids loops) → bound_value sizes b ≡ Some n → start_value ids s < n → Holds (guarded p s b) (turns_of ids loops)
       guarded_holds p loops (FromGroupId X) b n h w lt = asked_holds p (turns_of ids loops) 0 b n ids.x.group_id h refl w lt (reading b) refl
       guarded_holds p loops (FromLocalId X) b n h w lt = asked_holds p (turns_of ids loops) 1 b n ids.x.local_id h refl w lt (reading b) refl
-      guarded_holds p loops (FromGroupId Y) b n h w lt = h
-      guarded_holds p loops (FromLocalId Y) b n h w lt = h
+      guarded_holds p loops (FromGroupId Y) b n h w lt = asked_holds p (turns_of ids loops) 2 b n ids.y.group_id h refl w lt (reading b) refl
+      guarded_holds p loops (FromLocalId Y) b n h w lt = asked_holds p (turns_of ids loops) 3 b n ids.y.local_id h refl w lt (reading b) refl
       guarded_holds p loops (FromGlobalId d) b n h w lt = h
       guarded_holds p loops FromZero b n h w lt = h
 
@@ -309,4 +311,4 @@ module _ (names : List Name) (sizes : List ℕ) (fit : AreWords sizes) (sizes_ar
       pub place_holds : (local : Option (ℕ × ℕ)) (around : List Around) (loops : List ℕ) → AreIds local ids → StandsIn ids around loops → Holds (place_of names local around) (turns_of ids loops)
       place_holds local around loops are stands =
           all_hold (outside names local) [] around loops
-          (record { is_of = record { sizes = refl; multiples = refl }; known = λ known. (group_turn ids.x.group_id are.group, (own_turn local ids.x.local_id are.own are.fits, tt)) }) stands
+          (record { is_of = record { sizes = refl; multiples = refl }; known = λ known. (group_turn ids.x.group_id are.x.group, (own_turn (size_across local) ids.x.local_id are.x.own are.x.fits, (group_turn ids.y.group_id are.y.group, (own_turn (size_down local) ids.y.local_id are.y.own are.y.fits, tt)))) }) stands

@@ -4,7 +4,7 @@ use Rattle.size_arith.specs.declared.names.Name.{Name}
 use Rattle.size_arith.specs.Ranges.{AreNames, Admissible, sizes_at}
 use Rattle.index_expr.specs.Expression.{Expression, short_nodes}
 use Rattle.kernel_tree.specs.Formula.{Formula, Vars, value, bound_value}
-use Rattle.kernel_tree.specs.Launch.{Launch, IsWhole, HasLocal, ids_of}
+use Rattle.kernel_tree.specs.Launch.{Launch, IsWhole, HasLocal, item_count, ids_of}
 use Rattle.index_simplify.specs.Simplified.{AreDeclared}
 use Rattle.tidy_indices.specs.Formulas.{formula_nodes}
 use Rattle.tidy_indices.specs.Redundant.{IsIrredundant}
@@ -18,12 +18,13 @@ use Rattle.tidy_indices.specs.Tidy.{tidy_formula}
 abbrev pub Change : Type 0
 Change = List Around → Formula → Formula
 
--- at this launch it leaves each value: that of an index, for each item that is in the loops and ifs
--- around, at its turns, and that of a bound
+-- at this launch it leaves each value: that of an index, for each item of the launch that is in the
+-- loops and ifs around, at its turns, and that of a bound
 pub record KeepsValues (change : Change) (l : Launch) : Type 0 where
   pub index :
       (item : ℕ) (around : List Around) (turns : List ℕ) (variables : Vars) (f : Formula) (n : ℕ)
-      → StandsIn (ids_of l item) around turns → value (ids_of l item) turns variables f ≡ Some n
+      → item < item_count l → StandsIn (ids_of l item) around turns
+      → value (ids_of l item) turns variables f ≡ Some n
       → value (ids_of l item) turns variables (change around f) ≡ Some n
   pub bound :
       (b : Formula) (n : ℕ)
@@ -40,12 +41,12 @@ HaveIndexBounds (InLoop b ∷ around) = IsIndexFormula b × HaveIndexBounds arou
 HaveIndexBounds (InIf s b ∷ around) = HaveIndexBounds around
 
 -- a launch of a kernel that asks for groups of this size, where it asks for one: groups are whole,
--- and a row has items, at most 65,536
+-- and there are items, at most 65,536
 pub record IsLaunchFor (local : Option (ℕ × ℕ)) (l : Launch) : Type 0 where
   pub whole : IsWhole l
   pub size : HasLocal local l
-  pub some : 0 < l.global.0
-  pub few : l.global.0 ≤ 65536
+  pub some : 0 < item_count l
+  pub few : item_count l ≤ 65536
 
 -- at admissible sizes values stay, whether or not anything wraps
 abbrev pub TidyFormulasKeepValues : Type 0

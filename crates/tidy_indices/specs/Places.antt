@@ -1,11 +1,11 @@
 -- What is known at a place in a kernel.
-use Rattle.std.specs.Prelude.{ℕ, zero, suc, ◌-◌, min, Bool, true, false, List, [], ◌∷◌, ◌++◌, map, Option, Some, None}
+use Rattle.std.specs.Prelude.{ℕ, zero, suc, ◌-◌, min, Bool, true, false, List, [], ◌∷◌, ◌++◌, map, Option, Some, None, option_map}
 use Rattle.size_arith.specs.declared.names.Name.{Name}
 use Rattle.index_expr.specs.declared.operation.Operation.TheVariants.{Product}
 use Rattle.index_expr.specs.Expression.{Expression, Literal, Binary}
-use Rattle.kernel_tree.specs.declared.tree.Dimension.TheVariants.{X}
 use Rattle.kernel_tree.specs.Formula.{Formula}
 use Rattle.kernel_tree.specs.Code.{Start, FromGroupId, FromLocalId}
+use Rattle.length_spelling.specs.Turns.{group_turn, local_turn}
 use Rattle.index_simplify.specs.PlainRanges.{PlainRanges, ranges_of}
 use Rattle.index_simplify.specs.Operations.{simple}
 use Rattle.tidy_indices.specs.declared.places.Place.{Place}
@@ -44,7 +44,7 @@ without_turns r = record { lengths = []; multiples = r.multiples }
 abbrev pub beyond_words : Expression
 beyond_words = Binary Product (Literal 65536) (Literal 65536)
 
--- a row has at most 65,536 items, so a group's id is below that
+-- there are at most 65,536 items, so a group's id is below that in each dimension
 abbrev pub group_length : Expression
 group_length = Literal 65536
 
@@ -52,26 +52,44 @@ group_length = Literal 65536
 abbrev pub group_last : ℕ
 group_last = 65535
 
--- an item's id in its group is below the group's size, where the kernel asks for one; else it is a
--- word, and no more is known
-abbrev pub local_length : Option (ℕ × ℕ) → Expression
-local_length (Some size) = Literal size.0
+-- an item's id in its group is below the group's size in that dimension, where the kernel asks for
+-- one; else it is a word, and no more is known
+abbrev pub local_length : Option ℕ → Expression
+local_length (Some size) = Literal size
 local_length None = beyond_words
 
 -- the greatest id that an item may have in its group
-abbrev pub local_last : Option (ℕ × ℕ) → ℕ
-local_last (Some size) = size.0 - 1
+abbrev pub local_last : Option ℕ → ℕ
+local_last (Some size) = size - 1
 local_last None = 4294967295
+
+-- the size along a row that a kernel asks for, and the one from row to row
+abbrev pub size_across : Option (ℕ × ℕ) → Option ℕ
+size_across local = option_map (λ size. size.0) local
+
+abbrev pub size_down : Option (ℕ × ℕ) → Option ℕ
+size_down local = option_map (λ size. size.1) local
+
+-- what the ids are below, in the order of their numbers as turns
+abbrev pub id_lengths : (local : Option (ℕ × ℕ)) → List Expression
+id_lengths local =
+    group_length ∷ local_length (size_across local)
+    ∷ group_length ∷ local_length (size_down local) ∷ []
+
+-- and how great they are at most
+abbrev pub id_lasts : (local : Option (ℕ × ℕ)) → List ℕ
+id_lasts local =
+    group_last ∷ local_last (size_across local) ∷ group_last ∷ local_last (size_down local) ∷ []
 
 -- outside of all loops, in a kernel that asks for groups of this size
 abbrev pub outside : List Name → (local : Option (ℕ × ℕ)) → PlainPlace
 outside names local = record {
   sizes = names;
   around = record {
-    lengths = group_length ∷ local_length local ∷ [];
+    lengths = id_lengths local;
     multiples = (ranges_outside names).multiples;
   };
-  lasts = group_last ∷ local_last local ∷ [];
+  lasts = id_lasts local;
   is_known = true;
 }
 
@@ -100,8 +118,8 @@ inside p b = in_loop p (reading b)
 
 -- the turn that an `if` asks of: a group's id or an item's own
 abbrev pub asked_turn : Start → Option ℕ
-asked_turn (FromGroupId X) = Some 0
-asked_turn (FromLocalId X) = Some 1
+asked_turn (FromGroupId d) = Some (group_turn d)
+asked_turn (FromLocalId d) = Some (local_turn d)
 asked_turn _ = None
 
 -- the shorter of two lengths in numbers; else the one that is told last, since how great the turn

@@ -6,9 +6,8 @@ use Rattle.index_expr.specs.declared.operation.Operation.{Operation}
 use Rattle.index_expr.specs.declared.operation.Operation.TheVariants.{Sum, Difference, Product, Quotient, Remainder, Least, Greatest}
 use Rattle.index_expr.specs.Expression as index
 use Rattle.index_expr.specs.Expression.{Expression}
-use Rattle.kernel_tree.specs.declared.tree.Dimension.TheVariants.{X}
 use Rattle.kernel_tree.specs.Formula.{Formula, Number, LoopVariable, Size, Id, GroupId, LocalId, Binary}
-use Rattle.length_spelling.specs.Turns.{as_number, loop_turn}
+use Rattle.length_spelling.specs.Turns.{as_number, group_turn, local_turn, loop_turn}
 
 -- the operation that an operator is
 abbrev pub operation_of : Op → Option Operation
@@ -34,8 +33,8 @@ any_turn k = index.Variable k 0 4294967295
 abbrev pub reading : Formula → Option Expression
 reading (Number n) = if nat_lt n (2 ^ 32) then Some (index.Literal n) else None
 reading (LoopVariable k) = option_map any_turn (as_number (loop_turn k))
-reading (Id X GroupId) = Some (any_turn 0)
-reading (Id X LocalId) = Some (any_turn 1)
+reading (Id d GroupId) = Some (any_turn (group_turn d))
+reading (Id d LocalId) = Some (any_turn (local_turn d))
 reading (Size k) = Some (index.Size k)
 reading (Binary o a b) = on_both (operation_of o) (reading a) (reading b)
 reading _ = None
@@ -55,8 +54,8 @@ IsIndexOperator _ = ⊥
 abbrev pub IsIndexFormula : Formula → Type 0
 IsIndexFormula (Number n) = n < 2 ^ 32
 IsIndexFormula (LoopVariable k) = loop_turn k < 2 ^ 32
-IsIndexFormula (Id X GroupId) = Unit {0}
-IsIndexFormula (Id X LocalId) = Unit {0}
+IsIndexFormula (Id d GroupId) = Unit {0}
+IsIndexFormula (Id d LocalId) = Unit {0}
 IsIndexFormula (Size k) = Unit {0}
 IsIndexFormula (Binary o a b) = IsIndexOperator o × IsIndexFormula a × IsIndexFormula b
 IsIndexFormula _ = ⊥

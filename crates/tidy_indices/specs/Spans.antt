@@ -57,7 +57,7 @@ span_of names lasts (Binary o a b) = operated_on o (span_of names lasts a) (span
 
 -- where the range of a turn's variable ends: an id's where its turn does, as far as that is known
 abbrev pub narrowed_end : (lasts : List ℕ) → (turn end : ℕ) → ℕ
-narrowed_end lasts k g = if nat_lt k 2 then unwrap_or (slice_get lasts k) g else g
+narrowed_end lasts k g = if nat_lt k 4 then unwrap_or (slice_get lasts k) g else g
 
 -- the range of each id ends where its turn does; that of a loop's variable stays
 abbrev pub narrowed : (lasts : List ℕ) → Expression → Expression

@@ -67,26 +67,36 @@ fn beyond_words(alloc: Global) -> Result<Index, AllocError>
     )
 }
 
-// A row has at most so many items, so a group's id is below that.
-const ROW_LIMIT: u32 = 65536;
+// A launch has at most so many items, so a group's id is below that in each dimension.
+const ITEM_LIMIT: u32 = 65536;
 
-// What an item's id in its group is below, in a kernel that asks for groups of this size.
-fn local_length(alloc: Global, local: Option<(u32, u32)>) -> Result<Index, AllocError>
-    ensures { IfOk result (λ e. expression_of e ≡ spec.local_length local) }
+// What an item's id in its group is below in a dimension, where the kernel asks for this size.
+fn local_length(alloc: Global, size: Option<u32>) -> Result<Index, AllocError>
+    ensures { IfOk result (λ e. expression_of e ≡ spec.local_length size) }
 {
-    match local {
-        Some((size, _)) => Ok(Index::Literal(size)),
+    match size {
+        Some(size) => Ok(Index::Literal(size)),
         None => beyond_words(alloc),
     }
 }
 
 // And how great it is at most.
-fn local_last(local: Option<(u32, u32)>) -> u32
-    ensures { result ≡ spec.local_last local }
+fn local_last(size: Option<u32>) -> u32
+    ensures { result ≡ spec.local_last size }
+{
+    match size {
+        Some(size) => size.saturating_sub(1),
+        None => u32::MAX,
+    }
+}
+
+// The sizes that a kernel asks for along a row and from row to row.
+fn sizes_asked(local: Option<(u32, u32)>) -> (Option<u32>, Option<u32>)
+    ensures { result ≡ (spec.size_across local, spec.size_down local) }
 {
     match local {
-        Some((size, _)) => size.saturating_sub(1),
-        None => u32::MAX,
+        Some((across, down)) => (Some(across), Some(down)),
+        None => (None, None),
     }
 }
 
@@ -106,8 +116,8 @@ fn asked_turn(start: Start) -> Option<u32>
     ensures { result ≡ spec.asked_turn (start_of start) }
 {
     match start {
-        Start::GroupId(Dimension::X) => Turn::Group.number(),
-        Start::LocalId(Dimension::X) => Turn::Local.number(),
+        Start::GroupId(dimension) => Turn::Group(dimension).number(),
+        Start::LocalId(dimension) => Turn::Local(dimension).number(),
         _ => None,
     }
 }
@@ -143,24 +153,30 @@ fn lower(lasts: &mut Vec<u32>, turn: u32, last: u32)
     }
 }
 
-// What a group's id and an item's own are below, in a kernel that asks for groups of this size.
+// What a group's id and an item's own are below in the two dimensions, in a kernel that asks for
+// groups of this size.
 fn id_lengths(alloc: Global, local: Option<(u32, u32)>) -> Result<Vec<Index>, AllocError>
-    ensures { IfOk result (λ v. map expression_of v.items
-        ≡ spec.group_length ∷ spec.local_length local ∷ []) }
+    ensures { IfOk result (λ v. map expression_of v.items ≡ spec.id_lengths local) }
 {
-    let mut lengths = Vec::with_capacity(alloc, 2)?;
-    lengths.push(Index::Literal(ROW_LIMIT))?;
-    lengths.push(local_length(alloc, local)?)?;
+    let (across, down) = sizes_asked(local);
+    let mut lengths = Vec::with_capacity(alloc, 4)?;
+    lengths.push(Index::Literal(ITEM_LIMIT))?;
+    lengths.push(local_length(alloc, across)?)?;
+    lengths.push(Index::Literal(ITEM_LIMIT))?;
+    lengths.push(local_length(alloc, down)?)?;
     Ok(lengths)
 }
 
 // And how great they are at most.
 fn id_lasts(alloc: Global, local: Option<(u32, u32)>) -> Result<Vec<u32>, AllocError>
-    ensures { IfOk result (λ v. v.items ≡ spec.group_last ∷ spec.local_last local ∷ []) }
+    ensures { IfOk result (λ v. v.items ≡ spec.id_lasts local) }
 {
-    let mut lasts = Vec::with_capacity(alloc, 2)?;
-    lasts.push(ROW_LIMIT - 1)?;
-    lasts.push(local_last(local))?;
+    let (across, down) = sizes_asked(local);
+    let mut lasts = Vec::with_capacity(alloc, 4)?;
+    lasts.push(ITEM_LIMIT - 1)?;
+    lasts.push(local_last(across))?;
+    lasts.push(ITEM_LIMIT - 1)?;
+    lasts.push(local_last(down))?;
     Ok(lasts)
 }
 

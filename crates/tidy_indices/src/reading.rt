@@ -7,7 +7,7 @@ ghost use Rattle.length_spelling.specs.Turns.{number_of, as_number};
 ghost use Rattle.tidy_indices.specs.Reading as spec;
 
 use index_expr::{Index, Operation};
-use kernel_tree::tree::{Dimension, Expr, IdForm};
+use kernel_tree::tree::{Expr, IdForm};
 use length_spelling::Turn;
 use scalar_ops::op::Op;
 use std::alloc::{AllocError, Global};
@@ -64,8 +64,8 @@ pub fn reading(alloc: Global, expr: &Expr) -> Result<Option<Index>, AllocError>
     match expr {
         Expr::Number(n) => Ok(Some(Index::Literal(*n))),
         Expr::LoopVariable(depth) => Ok(any_turn(Turn::Loop(*depth))),
-        Expr::Id(Dimension::X, IdForm::GroupId) => Ok(any_turn(Turn::Group)),
-        Expr::Id(Dimension::X, IdForm::LocalId) => Ok(any_turn(Turn::Local)),
+        Expr::Id(dimension, IdForm::GroupId) => Ok(any_turn(Turn::Group(*dimension))),
+        Expr::Id(dimension, IdForm::LocalId) => Ok(any_turn(Turn::Local(*dimension))),
         Expr::Size(number) => Ok(Some(Index::Size(*number))),
         Expr::Binary(op, a, b) => match operation_of(*op) {
             Some(operation) => {

@@ -120,8 +120,9 @@ pub fn span_of(names: &[Name], lasts: &[u32], index: &Index) -> Option<Span>
     }
 }
 
-// How many turns are ids: a group's, and an item's in its group. Those behind them are loops'.
-const IDS: u32 = 2;
+// How many turns are ids: a group's, and an item's in its group, in two dimensions. Those behind them
+// are loops'.
+const IDS: u32 = 4;
 
 // Where the range of a turn's variable ends: an id's where its turn does, as far as that is known.
 fn narrowed_end(lasts: &[u32], turn: u32, end: u32) -> u32

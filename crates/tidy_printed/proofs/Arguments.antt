@@ -7,15 +7,15 @@ use Rattle.lift_ir.specs.Types.{Shape}
 use Rattle.lift_ir.specs.Terms.{Term, Bound, Source, Both, Project, Reshape, LetArray, Copy, push}
 use Rattle.index_expr.specs.Expression.{Expression, Literal, short_nodes}
 use Rattle.printed_form.specs.Arguments.{CopyArrays, argument_view}
-use Rattle.printed_form.specs.MapForms.{MapForms}
 use Rattle.printed_form.specs.Views.{Blank, View, laid_view}
 use Rattle.printed_form.proofs.Arguments.{IsArgument}
+use Rattle.group_form.specs.GridTerms.{GridForms}
 use Rattle.tidy_printed.specs.Limits.{IndexNodes, array_nodes, argument_nodes}
 use Rattle.tidy_printed.proofs.Formulas.{Spelled, spelled_number}
 use Rattle.tidy_printed.proofs.Views.{IsIndexed, sides_indexed, part_indexed, read_indexed, placed_indexed}
 use Rattle.tidy_printed.proofs.Codes.{AreIndexed, pushed}
 
-module _ (names : List Name) {A : Type 0} (arrays : CopyArrays A) (spell : A → Expression) (text : A → Formula) (lengths : (n : A) → Spelled names (short_nodes (spell n)) (text n)) (forms : MapForms A) (src : ℕ → Shape A) (ins : ℕ → View) (inputs : (v : ℕ) → IsIndexed names (array_nodes spell (src v)) (ins v)) where
+module _ (names : List Name) {A : Type 0} (arrays : CopyArrays A) (spell : A → Expression) (text : A → Formula) (lengths : (n : A) → Spelled names (short_nodes (spell n)) (text n)) (forms : GridForms A) (src : ℕ → Shape A) (ins : ℕ → View) (inputs : (v : ℕ) → IsIndexed names (array_nodes spell (src v)) (ins v)) where
   abbrev viewed : (ℕ → View) → ℕ → Term A → View
   viewed env a t = argument_view arrays text ins env a t
 

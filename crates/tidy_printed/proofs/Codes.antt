@@ -4,14 +4,15 @@ use Rattle.std.proofs.Common.{ℕ, zero, suc, ◌+◌, Bool, true, false, List, 
 use Rattle.std.specs.Prelude.{Option}
 use Rattle.size_arith.specs.declared.names.Name.{Name}
 use Rattle.kernel_tree.specs.Formula.{Formula}
-use Rattle.kernel_tree.specs.Code.{Code, End}
+use Rattle.kernel_tree.specs.Code.{Start, Stride, Code, End}
 use Rattle.lift_ir.specs.Types.{Ty, Scalar, PairOf, ArrayOf, width}
 use Rattle.lift_ir.specs.Terms.{LoadSet, Skip, Take, Each, Kind, Term, Apply, ApplyNumber, Select, Both, Project, LetElement, push}
 use Rattle.printed_form.specs.Counts.{let_variables, load_count}
 use Rattle.printed_form.specs.MapForms.{MapForm, Looped, Guarded, Alone}
 use Rattle.printed_form.specs.Views.{Sign, Blank, Held, Read, View, held_sign, held_view, loaded_view, view_at}
 use Rattle.printed_form.specs.Printer.{or_number, sign_exprs, print_assigned, print_reassigned, print_element, print_store, print_load, print_stored, print_loaded, print_fold_turn}
-use Rattle.group_form.specs.Printer.{turn_formula, print_turns}
+use Rattle.group_form.specs.GridPrinter.{print_turns_from}
+use Rattle.group_form.specs.Printer.{print_turns}
 use Rattle.tidy_printed.specs.Indices.{EachWithin, indices_then}
 use Rattle.tidy_printed.specs.Limits.{IndexNodes, at_one_node, after_loads, index_limit, load_limits, store_limits, bound_limit}
 use Rattle.tidy_printed.proofs.Formulas.{Spelled, Index}
@@ -95,27 +96,35 @@ module _ (names : List Name) where
       let again = print_reassigned ty (sign_exprs inner n b) acc (n + let_variables b) End in
       loads_fine ls m x (acc + width ty) (print_element inner n b again) limits fs g (element_fine limits fs n inner b again (reassigned_fine limits fs ty (sign_exprs inner n b) acc (n + let_variables b) End f))
 
-  -- the turns of a map, whose code fits whatever follows it
-  turns_fine : (form : MapForm) (kind : Kind) (m : ℕ) (bound : Formula) (turn : Code → Code) (rest : Code) (inside limits : List ℕ) (fs : List Formula) → Spelled names m bound → ((last : Code) (gs : List Formula) → Fits limits last gs → Fits inside (turn last) gs) → Fits limits rest fs
-      → Fits (bound_limit form m inside) (print_turns form kind bound turn rest) fs
-  turns_fine Looped kind m bound turn rest inside limits fs s r f = (s, r End (indices_then rest fs) f)
-  turns_fine Guarded kind m bound turn rest inside limits fs s r f = (s, r End (indices_then rest fs) f)
-  turns_fine Alone kind m bound turn rest inside limits fs s r f = r rest fs f
+  -- this prints the turns of a map in a form, with a bound of at most so many nodes, so that they fit
+  -- where a turn's code fits whatever follows it
+  abbrev pub PrintsTurns : MapForm → ℕ → (print : (turn : Code → Code) → (rest : Code) → Code) → Type 0
+  PrintsTurns form m print =
+      (turn : Code → Code) (rest : Code) (inside limits : List ℕ) (fs : List Formula) → ((last : Code) (gs : List Formula) → Fits limits last gs → Fits inside (turn last) gs) → Fits limits rest fs → Fits (bound_limit form m inside) (print turn rest) fs
+
+  pub turns_fine : (form : MapForm) (s : Start) (c : Stride) (m : ℕ) (bound : Formula) → Spelled names m bound → PrintsTurns form m (print_turns_from form s c bound)
+  turns_fine Looped s c m bound is turn rest inside limits fs r f = (is, r End (indices_then rest fs) f)
+  turns_fine Guarded s c m bound is turn rest inside limits fs r f = (is, r End (indices_then rest fs) f)
+  turns_fine Alone s c m bound is turn rest inside limits fs r f = r rest fs f
+
+  pub kind_turns_fine : (form : MapForm) (kind : Kind) (m : ℕ) (bound : Formula) → Spelled names m bound → PrintsTurns form m (print_turns form kind bound)
+  kind_turns_fine Looped kind m bound is turn rest inside limits fs r f = (is, r End (indices_then rest fs) f)
+  kind_turns_fine Guarded kind m bound is turn rest inside limits fs r f = (is, r End (indices_then rest fs) f)
+  kind_turns_fine Alone kind m bound is turn rest inside limits fs r f = r rest fs f
 
   -- a map in a form, whose body's code fits wherever it stands
-  pub map_fine : (form : MapForm) (kind : Kind) (d m n : ℕ) (bound : Formula) (ls : LoadSet) (counts : ℕ → IndexNodes) (env : ℕ → View) (from to : IndexNodes) (x w : View) (inside : (ℕ → IndexNodes) → IndexNodes → List ℕ) (body : (ℕ → View) → View → Code → Code) (rest : Code) (limits : List ℕ) (fs : List Formula)
-      → Index names 1 (turn_formula form kind d) → Spelled names m bound
+  pub map_fine : (form : MapForm) (turn : Formula) (print : (Code → Code) → Code → Code) (m n : ℕ) (ls : LoadSet) (counts : ℕ → IndexNodes) (env : ℕ → View) (from to : IndexNodes) (x w : View) (inside : (ℕ → IndexNodes) → IndexNodes → List ℕ) (body : (ℕ → View) → View → Code → Code) (rest : Code) (limits : List ℕ) (fs : List Formula)
+      → Index names 1 turn → PrintsTurns form m print
       → ((counts : ℕ → IndexNodes) (env : ℕ → View) (to : IndexNodes) (w : View) (last : Code) (gs : List Formula) → AreIndexed counts env → IsIndexed names to w → Fits limits last gs → Fits (inside counts to) (body env w last) gs)
       → AreIndexed counts env → IsIndexed names from x → IsIndexed names to w → Fits limits rest fs
-      → Fits (bound_limit form m (load_limits ls (at_one_node from) (inside (push (after_loads ls (at_one_node from)) counts) (at_one_node to)))) (print_turns form kind bound (λ last. print_loaded ls (view_at (turn_formula form kind d) x) n (body (push (loaded_view ls (view_at (turn_formula form kind d) x) n) env) (view_at (turn_formula form kind d) w) last)) rest) fs
-  map_fine form kind d m n bound ls counts env from to x w inside body rest limits fs is s fits all comes goes f =
-      let turn = turn_formula form kind d in
+      → Fits (bound_limit form m (load_limits ls (at_one_node from) (inside (push (after_loads ls (at_one_node from)) counts) (at_one_node to)))) (print (λ last. print_loaded ls (view_at turn x) n (body (push (loaded_view ls (view_at turn x) n) env) (view_at turn w) last)) rest) fs
+  map_fine form turn print m n ls counts env from to x w inside body rest limits fs is prints fits all comes goes f =
       let element = view_at turn x in
       let at = at_one_node from in
       let inner = push (loaded_view ls element n) env in
       let within = push (after_loads ls at) counts in
       let turned = turned_indexed names turn from x is comes in
-      turns_fine form kind m bound (λ last. print_loaded ls element n (body inner (view_at turn w) last)) rest (load_limits ls at (inside within (at_one_node to))) limits fs s
+      prints (λ last. print_loaded ls element n (body inner (view_at turn w) last)) rest (load_limits ls at (inside within (at_one_node to))) limits fs
       (λ last gs r. loads_fine ls at element n (body inner (view_at turn w) last) (inside within (at_one_node to)) gs turned
       (fits within inner (at_one_node to) (view_at turn w) last gs (pushed counts env (after_loads ls at) (loaded_view ls element n) (loaded_indexed names ls at element n turned) all) (turned_indexed names turn to w is goes) r))
       f

@@ -6,10 +6,11 @@ use Rattle.index_expr.specs.declared.operation.Operation.TheVariants.{Sum, Diffe
 use Rattle.index_expr.specs.Expression as index
 use Rattle.index_expr.specs.Expression.{Expression, short_nodes}
 use Rattle.scalar_ops.specs.declared.op.Op.TheVariants.{Div}
-use Rattle.kernel_tree.specs.declared.tree.Dimension.TheVariants.{X}
+use Rattle.kernel_tree.specs.declared.tree.Dimension.{Dimension}
+use Rattle.kernel_tree.specs.declared.tree.Dimension.TheVariants.{X, Y}
 use Rattle.kernel_tree.specs.Formula.{Formula, Number, LoopVariable, Size, Id, GroupId, LocalId, Binary}
 use Rattle.length_spelling.specs.Formulas.{index_formula, operator_of}
-use Rattle.length_spelling.specs.Turns.{loop_turn}
+use Rattle.length_spelling.specs.Turns.{group_turn, local_turn, loop_turn}
 use Rattle.index_simplify.specs.Simplified.{is_declared, AreDeclared}
 use Rattle.tidy_indices.specs.Places.{ranges_outside}
 use Rattle.tidy_printed.proofs.Nodes.{of_parts, of_dividend}
@@ -45,11 +46,13 @@ module _ (names : List Name) where
   pub index_loop : (d : ℕ) → Index 1 (LoopVariable d)
   index_loop d = (record { expression = index.Variable (loop_turn d) 0 0; spelled = refl; declared = tt; short = omega arith }, tt)
 
-  pub index_group : Index 1 (Id X GroupId)
-  index_group = (record { expression = index.Variable 0 0 0; spelled = refl; declared = tt; short = omega arith }, tt)
+  pub index_group : (d : Dimension) → Index 1 (Id d GroupId)
+  index_group X = (record { expression = index.Variable (group_turn X) 0 0; spelled = refl; declared = tt; short = omega arith }, tt)
+  index_group Y = (record { expression = index.Variable (group_turn Y) 0 0; spelled = refl; declared = tt; short = omega arith }, tt)
 
-  pub index_local : Index 1 (Id X LocalId)
-  index_local = (record { expression = index.Variable 1 0 0; spelled = refl; declared = tt; short = omega arith }, tt)
+  pub index_local : (d : Dimension) → Index 1 (Id d LocalId)
+  index_local X = (record { expression = index.Variable (local_turn X) 0 0; spelled = refl; declared = tt; short = omega arith }, tt)
+  index_local Y = (record { expression = index.Variable (local_turn Y) 0 0; spelled = refl; declared = tt; short = omega arith }, tt)
 
   joined : (o : Operation) (i j : Formula) (a b : Expression) → i ≡ index_formula a → j ≡ index_formula b → Binary (operator_of o) i j ≡ index_formula (index.Binary o a b)
   joined o i j a b p q = ap (λ x. Binary (operator_of o) x j) p ∙ ap (λ x. Binary (operator_of o) (index_formula a) x) q
@@ -109,6 +112,8 @@ module _ (names : List Name) where
       of (index.Binary o a b) h d le = absurd (cc h)
       of (index.Variable zero l g) h d le = absurd (cc h)
       of (index.Variable (suc zero) l g) h d le = absurd (cc h)
-      of (index.Variable (suc (suc k)) l g) h d le = absurd (cc h)
+      of (index.Variable (suc (suc zero)) l g) h d le = absurd (cc h)
+      of (index.Variable (suc (suc (suc zero))) l g) h d le = absurd (cc h)
+      of (index.Variable (suc (suc (suc (suc k)))) l g) h d le = absurd (cc h)
       of (index.Literal k) h d le = absurd (cc h)
       of (index.Size k) h d le = absurd (cc h)

@@ -17,12 +17,12 @@ use Rattle.lift_ir.specs.AtLaunch.{shape_of}
 use Rattle.lift_ir.specs.Lowering.{Lowered}
 use Rattle.lift_ir.specs.Types.{Shape}
 use Rattle.length_spelling.specs.Formulas.{length_formula, spelled_length}
-use Rattle.printed_form.specs.MapForms.{MapForms}
 use Rattle.printed_form.specs.Views.{View, placed_view}
 use Rattle.printed_form.specs.Printer.{input_views, no_view}
 use Rattle.printed_form.specs.Programs.{first_buffer, input_shape, lowered_root}
-use Rattle.group_form.specs.ChosenForms.{forms_of}
-use Rattle.group_form.specs.Kernels.{Printer, OfItems, OfGroups, StandsFor, kernel_by}
+use Rattle.group_form.specs.GridChosen.{grid_forms_of}
+use Rattle.group_form.specs.GridTerms.{GridForms}
+use Rattle.group_form.specs.Kernels.{Printer, OfItems, OfGroups, OfGrids, StandsFor, kernel_by}
 use Rattle.tidy_indices.specs.Around.{Around, InLoop, InIf}
 use Rattle.tidy_indices.specs.Laws.{Change, HaveIndexBounds}
 use Rattle.tidy_indices.specs.Reading.{reading}
@@ -37,6 +37,7 @@ use Rattle.tidy_printed.proofs.Readings.{spelled_read, read_index}
 use Rattle.tidy_printed.proofs.Views.{IsIndexed, blank_indexed, placed_indexed}
 use Rattle.tidy_printed.proofs.TermIndices as terms
 use Rattle.tidy_printed.proofs.GroupIndices as groups
+use Rattle.tidy_printed.proofs.GridIndices as grids
 
 -- whatever the limits are
 abbrev Goes : (P Q : ℕ → Formula → Type 0) → (from to : List Formula) → Type 0
@@ -103,15 +104,15 @@ module _ (names : List Name) (k : Kernel) where
       let sized = is_group_size k.local && code in
       all_read 0 0 k.code [] (omega arith) (omega arith) (after_two (is_group_size k.local) (has_statement k.code) (are_statements k 0 0 k.code) (and_parts (are_lengths k.privates) sized (after_two (nat_lt 0 k.outputs) (are_lengths k.locals) (are_lengths k.privates && sized) h)).1) nothing_left
 
-module _ (d : Declared) (size : Option ℕ) (fence : ℕ → Fencing) (t : Tree) (a : Annotation) (are : AreNames d.names) where
+module _ (d : Declared) (size : Option (ℕ × ℕ)) (fence : ℕ → Fencing) (t : Tree) (a : Annotation) (are : AreNames d.names) where
   abbrev spell : List Monomial → Expression
   spell = spelled_length d.names
 
   abbrev text : List Monomial → Formula
   text = length_formula d.names
 
-  abbrev forms : MapForms (List Monomial)
-  forms = forms_of d.names size
+  abbrev forms : GridForms (List Monomial)
+  forms = grid_forms_of d.names size
 
   abbrev src : ℕ → Shape (List Monomial)
   src = input_shape d.inputs
@@ -142,6 +143,7 @@ module _ (d : Declared) (size : Option ℕ) (fence : ℕ → Fencing) (t : Tree)
   printed_fits OfItems (inl h) = terms.written_fine d.names spell text lengths forms src ins inputs_indexed 0 (λ v. no_index) no_view 0 0 root output_nodes output_view End [] [] h (λ v. blank_indexed d.names) output_indexed tt
   printed_fits OfItems (inr h) = terms.launch_fine d.names spell text lengths forms src ins inputs_indexed 0 (λ v. no_index) no_view 0 0 root output_nodes output_view End [] [] h (λ v. blank_indexed d.names) output_indexed tt
   printed_fits OfGroups h = groups.groups_fine d.names spell text lengths forms src ins inputs_indexed fence (λ v. no_index) no_view root output_nodes output_view h (λ v. blank_indexed d.names) output_indexed
+  printed_fits OfGrids h = grids.grid_fine d.names spell text lengths forms src ins inputs_indexed fence (λ v. no_index) no_view root output_nodes output_view h (λ v. blank_indexed d.names) output_indexed
 
 pub terms_have : TermsHaveIndexFormulas
 terms_have p d size fence t a are stands kernel =

@@ -1,8 +1,9 @@
 mod Elements
 mod Statements
 mod TidiedTerms
-mod TidiedKernels
 mod TidiedGroups
+mod TidiedGrids
+mod TidiedKernels
 pub mod Nodes
 pub mod Formulas
 pub mod Readings
@@ -12,4 +13,5 @@ pub mod Codes
 pub mod Arguments
 pub mod TermIndices
 pub mod GroupIndices
+pub mod GridIndices
 pub mod KernelIndices

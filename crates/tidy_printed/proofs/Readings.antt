@@ -11,7 +11,6 @@ use Rattle.index_expr.specs.declared.operation.Operation.TheVariants.{Sum, Diffe
 use Rattle.index_expr.specs.Expression.{Expression, Variable, Literal, Size, Binary, short_nodes, short_operation, divisor_of, scaled_nodes}
 use Rattle.kernel_tree.specs.Code.{Kernel}
 use Rattle.kernel_tree.specs.Grammar.{is_operator, names_declared}
-use Rattle.kernel_tree.specs.declared.tree.Dimension.TheVariants.{X}
 use Rattle.kernel_tree.specs.Formula as formula
 use Rattle.kernel_tree.specs.Formula.{Formula, Number, LoopVariable, Id, GroupId, LocalId}
 use Rattle.length_spelling.specs.Formulas.{index_formula, operator_of}
@@ -60,7 +59,9 @@ numbered n false e = absurd (cc e)
 read_again : (e : Expression) → AreWords e → reading (index_formula e) ≡ Some (unranged e)
 read_again (Variable zero l g) h = refl
 read_again (Variable (suc zero) l g) h = refl
-read_again (Variable (suc (suc k)) l g) h = numbered (suc (suc k)) (nat_lt (suc (suc k)) (2 ^ 32)) (lt-ltb (suc (suc k)) (2 ^ 32) h)
+read_again (Variable (suc (suc zero)) l g) h = refl
+read_again (Variable (suc (suc (suc zero))) l g) h = refl
+read_again (Variable (suc (suc (suc (suc k)))) l g) h = numbered (loop_turn k) (nat_lt (loop_turn k) (2 ^ 32)) (lt-ltb (loop_turn k) (2 ^ 32) h)
 read_again (Literal n) h = chosen n (nat_lt n (2 ^ 32)) (lt-ltb n (2 ^ 32) h)
 read_again (Size k) h = refl
 read_again (Binary o a b) h = of_both o (reading (index_formula a)) (reading (index_formula b)) (unranged a) (unranged b) (read_again a h.0) (read_again b h.1)
@@ -80,7 +81,9 @@ module _ (r : PlainRanges) where
 has_words : (k : Kernel) (loops : ℕ) → loops ≤ 1024 → (e : Expression) → names_declared k loops (index_formula e) ≡ true → AreWords e
 has_words k loops few (Variable zero l g) h = omega arith
 has_words k loops few (Variable (suc zero) l g) h = omega arith
-has_words k loops few (Variable (suc (suc i)) l g) h = let lt = ltb-true i loops h in omega arith
+has_words k loops few (Variable (suc (suc zero)) l g) h = omega arith
+has_words k loops few (Variable (suc (suc (suc zero))) l g) h = omega arith
+has_words k loops few (Variable (suc (suc (suc (suc i)))) l g) h = let lt = ltb-true i loops h in omega arith
 has_words k loops few (Literal n) h = ltb-true n (2 ^ 32) h
 has_words k loops few (Size s) h = tt
 has_words k loops few (Binary o a b) h =
@@ -146,8 +149,8 @@ index_both op None x y e P Q same first second h = absurd (cc h)
 pub read_index : (f : Formula) (e : Expression) → reading f ≡ Some e → IsIndexFormula f
 read_index (Number n) e h = index_number n (nat_lt n (2 ^ 32)) e refl h
 read_index (LoopVariable k) e h = index_turn (loop_turn k) (nat_lt (loop_turn k) (2 ^ 32)) e refl h
-read_index (Id X GroupId) e h = tt
-read_index (Id X LocalId) e h = tt
+read_index (Id d GroupId) e h = tt
+read_index (Id d LocalId) e h = tt
 read_index (formula.Size k) e h = tt
 read_index (formula.Binary o a b) e h = index_both o (operation_of o) (reading a) (reading b) e (IsIndexFormula a) (IsIndexFormula b) refl (read_index a) (read_index b) h
 read_index _ e h = absurd (cc h)

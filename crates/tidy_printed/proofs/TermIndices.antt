@@ -3,25 +3,27 @@ use Rattle.std.proofs.Common.{ℕ, suc, ◌+◌, Bool, true, false, List, [], �
 use Rattle.size_arith.specs.declared.names.Name.{Name}
 use Rattle.kernel_tree.specs.Formula.{Formula, Number, LoopVariable}
 use Rattle.kernel_tree.specs.Code.{Private, Code, End, Loops}
-use Rattle.lift_ir.specs.Forms.{Stands, StandsOverLaunch}
+use Rattle.lift_ir.specs.Forms.{Stands, StandsAlongRow, StandsOverLaunch}
 use Rattle.lift_ir.specs.Types.{Shape, width}
-use Rattle.lift_ir.specs.Terms.{LoadSet, Kind, Global, Sequential, PrivateMemory, Term, Bound, Source, Both, Project, Reshape, LetArray, LetElement, Map, Fold, Store, Copy, push}
+use Rattle.lift_ir.specs.Terms.{LoadSet, Kind, Global, GlobalRows, Sequential, PrivateMemory, Term, Bound, Source, Both, Project, Reshape, LetArray, LetElement, Map, Fold, Store, Copy, push}
 use Rattle.index_expr.specs.Expression.{Expression, Literal, short_nodes}
 use Rattle.printed_form.specs.Arguments.{argument_view, private_arrays}
 use Rattle.printed_form.specs.Counts.{let_variables, load_count, variable_count, private_count}
 use Rattle.printed_form.specs.Form.{start_of, stride_of}
-use Rattle.printed_form.specs.MapForms.{Looped, MapForms}
+use Rattle.printed_form.specs.MapForms.{Looped}
 use Rattle.printed_form.specs.Views.{View, held_sign, held_view, loaded_view, view_at, result_indices, laid_view}
 use Rattle.printed_form.specs.Printer.{sign_exprs, print_assigned, print_element, print_stored, print_loaded, print_fold_turn, print_argument, print_written}
 use Rattle.printed_form.proofs.Arguments.{stands_argument}
+use Rattle.group_form.specs.GridPrinter.{print_turns_from}
+use Rattle.group_form.specs.GridTerms.{GridForms}
 use Rattle.tidy_printed.specs.Indices.{indices_then}
 use Rattle.tidy_printed.specs.Limits.{IndexNodes, no_index, at_one_node, after_loads, load_limits, store_limits, array_nodes, written_through, argument_nodes, element_nodes, argument_limits, written_limits}
 use Rattle.tidy_printed.proofs.Formulas.{Spelled, spelled_number, index_number, index_loop}
 use Rattle.tidy_printed.proofs.Views.{IsIndexed, turned_indexed, held_indexed, written_indexed, placed_indexed}
-use Rattle.tidy_printed.proofs.Codes.{Fits, AreIndexed, pushed, assigned_fine, stored_fine, element_fine, turn_fine, map_fine}
+use Rattle.tidy_printed.proofs.Codes.{Fits, AreIndexed, pushed, assigned_fine, stored_fine, element_fine, turn_fine, turns_fine, map_fine}
 use Rattle.tidy_printed.proofs.Arguments.{argument_indexed}
 
-module _ (names : List Name) {A : Type 0} (spell : A → Expression) (text : A → Formula) (lengths : (n : A) → Spelled names (short_nodes (spell n)) (text n)) (forms : MapForms A) (src : ℕ → Shape A) (ins : ℕ → View) (inputs : (v : ℕ) → IsIndexed names (array_nodes spell (src v)) (ins v)) where
+module _ (names : List Name) {A : Type 0} (spell : A → Expression) (text : A → Formula) (lengths : (n : A) → Spelled names (short_nodes (spell n)) (text n)) (forms : GridForms A) (src : ℕ → Shape A) (ins : ℕ → View) (inputs : (v : ℕ) → IsIndexed names (array_nodes spell (src v)) (ins v)) where
   abbrev viewed : (ℕ → View) → ℕ → Term A → View
   viewed env a t = argument_view private_arrays text ins env a t
 
@@ -56,8 +58,8 @@ module _ (names : List Name) {A : Type 0} (spell : A → Expression) (text : A �
       let at = element_nodes spell forms src counts x in
       let element = view_at (LoopVariable d) (viewed env a x) in
       argument (Loops (start_of kind) (text m) (stride_of kind) (print_loaded ls element start (code (push (loaded_view ls element start) env) (view_at (LoopVariable d) w) End)) rest) (short_nodes (spell m) ∷ load_limits ls at (inside (push (after_loads ls at) counts) (at_one_node to)))
-      (map_fine names Looped kind d (short_nodes (spell m)) start (text m) ls counts env (counted counts x) to (viewed env a x) w inside code rest limits fs
-      (index_loop names d) (lengths m) (λ counts env. body counts env (a + private_count x) (start + load_count ls)) all (viewed_indexed counts env a x stands all) goes f)
+      (map_fine names Looped (LoopVariable d) (print_turns_from Looped (start_of kind) (stride_of kind) (text m)) (short_nodes (spell m)) start ls counts env (counted counts x) to (viewed env a x) w inside code rest limits fs
+      (index_loop names d) (turns_fine names Looped (start_of kind) (stride_of kind) (short_nodes (spell m)) (text m) (lengths m)) (λ counts env. body counts env (a + private_count x) (start + load_count ls)) all (viewed_indexed counts env a x stands all) goes f)
 
   mutual
     pub argument_fine : (d : ℕ) (counts : ℕ → IndexNodes) (env : ℕ → View) (a n : ℕ) (t : Term A) (rest : Code) (limits : List ℕ) (fs : List Formula) → Stands false t → Views counts env → Right limits rest fs → Right (argued counts t limits) (print_argument text ins d env a n t rest) fs
@@ -117,6 +119,14 @@ module _ (names : List Name) {A : Type 0} (spell : A → Expression) (text : A �
     written_fine d counts env a n _ to w rest limits fs stands all goes f = absurd stands
 
   -- ---- over the launch
+  row_fine : (d : ℕ) (counts : ℕ → IndexNodes) (env : ℕ → View) (a n : ℕ) (t : Term A) (to : IndexNodes) (w : View) (rest : Code) (limits : List ℕ) (fs : List Formula) → StandsAlongRow t → Views counts env → IsIndexed names to w → Right limits rest fs → Right (written counts t to limits) (print_written text ins d env a n t w rest) fs
+  row_fine d counts env a n (Reshape y x) to w rest limits fs stands all goes f =
+      row_fine d counts env a n x (written_through spell y to) (λ cs is. w cs (result_indices text y is)) rest limits fs stands.1 all (written_indexed names spell text lengths y to w goes) f
+  row_fine d counts env a n (Map Global m ls x b) to w rest limits fs stands all goes f =
+      loop_fine Global d counts env a n m ls x b to w rest limits fs (λ code inside r. argument_fine d counts env a n x code inside fs stands.0 all r)
+      (λ counts env a n to w last gs all goes f. written_fine (suc d) counts env a n b to w last limits gs stands.1 all goes f) stands.0 all goes f
+  row_fine d counts env a n _ to w rest limits fs stands all goes f = absurd stands
+
   pub launch_fine : (d : ℕ) (counts : ℕ → IndexNodes) (env : ℕ → View) (a n : ℕ) (t : Term A) (to : IndexNodes) (w : View) (rest : Code) (limits : List ℕ) (fs : List Formula) → StandsOverLaunch t → Views counts env → IsIndexed names to w → Right limits rest fs → Right (written counts t to limits) (print_written text ins d env a n t w rest) fs
   launch_fine d counts env a n (Reshape y x) to w rest limits fs stands all goes f =
       launch_fine d counts env a n x (written_through spell y to) (λ cs is. w cs (result_indices text y is)) rest limits fs stands.1 all (written_indexed names spell text lengths y to w goes) f
@@ -125,7 +135,8 @@ module _ (names : List Name) {A : Type 0} (spell : A → Expression) (text : A �
       let within = push (counted counts v) counts in
       argument_fine d counts env a n v (print_written text ins d inner (a + private_count v) (n + variable_count v) b w rest) (written within b to limits) fs stands.0 all
       (launch_fine d within inner (a + private_count v) (n + variable_count v) b to w rest limits fs stands.1 (pushed names counts env (counted counts v) (viewed env a v) (viewed_indexed counts env a v stands.0 all) all) goes f)
-  launch_fine d counts env a n (Map Global m ls x b) to w rest limits fs stands all goes f =
-      loop_fine Global d counts env a n m ls x b to w rest limits fs (λ code inside r. argument_fine d counts env a n x code inside fs stands.0 all r)
-      (λ counts env a n to w last gs all goes f. written_fine (suc d) counts env a n b to w last limits gs stands.1 all goes f) stands.0 all goes f
+  launch_fine d counts env a n (Map Global m ls x b) to w rest limits fs stands all goes f = row_fine d counts env a n (Map Global m ls x b) to w rest limits fs stands all goes f
+  launch_fine d counts env a n (Map GlobalRows m ls x b) to w rest limits fs stands all goes f =
+      loop_fine GlobalRows d counts env a n m ls x b to w rest limits fs (λ code inside r. argument_fine d counts env a n x code inside fs stands.0 all r)
+      (λ counts env a n to w last gs all goes f. row_fine (suc d) counts env a n b to w last limits gs stands.1 all goes f) stands.0 all goes f
   launch_fine d counts env a n _ to w rest limits fs stands all goes f = absurd stands

@@ -1,5 +1,5 @@
 -- Tidied, a map over work-groups is what it was printed for.
-use Rattle.std.proofs.Common.{◌≡◌, ℕ, ◌+◌, ◌<◌, Bool, true, false, List, [], ◌∷◌, Some, refl, ap, ◌∙◌, arith}
+use Rattle.std.proofs.Common.{◌≡◌, ℕ, ◌+◌, ◌<◌, Bool, true, false, List, [], ◌∷◌, Some, refl, sym, ap, ◌∙◌}
 use Rattle.size_arith.specs.declared.poly.Monomial.{Monomial}
 use Rattle.kernel_tree.specs.Formula.{Formula, bound_value}
 use Rattle.kernel_tree.specs.Code.{Local as LocalArray, Code, End}
@@ -11,28 +11,29 @@ use Rattle.lift_ir.specs.Scalars.{at_index}
 use Rattle.printed_form.specs.Counts.{load_count, local_count}
 use Rattle.printed_form.specs.MapForms.{MapForm, MapForms, form_over_groups, statement_over_groups, variables_in}
 use Rattle.printed_form.specs.Marks.{Marks, laid_in, loaded_marks}
-use Rattle.printed_form.specs.Form.{start_of, IsTurnOf, argument_marks}
+use Rattle.printed_form.specs.Form.{start_of, stride_of, IsTurnOf, argument_marks}
 use Rattle.group_phases.specs.Epochs.{IsPast}
+use Rattle.group_phases.specs.Strides.{statement_of}
 use Rattle.group_form.specs.Stages.{marks_of}
 use Rattle.group_form.specs.Uses.{phases_in}
 use Rattle.group_form.specs.Form.{Used, used_after, IsLocalMap, IsGroupArgument, IsGroupWritten, IsGroupTurn, IsOverGroups}
-use Rattle.tidy_indices.specs.Around.{Around, InLoop, InIf, StandsIn}
+use Rattle.tidy_indices.specs.Around.{Around, StandsIn}
 use Rattle.tidy_indices.specs.Laws.{Change, KeepsValues}
 use Rattle.tidy_kernels.specs.Pass.{tidied_code}
 use Rattle.tidy_printed.specs.Terms.{TidiedGroupCodesArePrinted, TidiedLoadsArePrinted, TidiedMapsArePrinted}
+use Rattle.tidy_printed.proofs.Statements.{statement_in, tidied_statement, entered}
 
-past : (tidy : Change) (around : List Around) (f : Fencing) (before after : Code) → IsPast f before after → IsPast f (tidied_code tidy around before) (tidied_code tidy around after)
+pub past : (tidy : Change) (around : List Around) (f : Fencing) (before after : Code) → IsPast f before after → IsPast f (tidied_code tidy around before) (tidied_code tidy around after)
 past tidy around Open before after h = ap (tidied_code tidy around) h
 past tidy around (Fenced on_local on_global) before after h = ap (tidied_code tidy around) h
 
--- the statement around a turn of a map over groups
-abbrev statement_in : (once : Bool) → Formula → Around
-statement_in false b = InLoop b
-statement_in true b = InIf (start_of WorkGroup) b
+-- the statement over groups
+over : (once : Bool) (b : Formula) (body : Code) → statement_over_groups once b body ≡ statement_of (form_over_groups once) (start_of WorkGroup) (stride_of WorkGroup) b body
+over false b body = refl
+over true b body = refl
 
-tidied_statement : (tidy : Change) (once : Bool) (b : Formula) (body : Code) → tidied_code tidy [] (statement_over_groups once b body) ≡ statement_over_groups once (tidy [] b) (tidied_code tidy (statement_in once b ∷ []) body)
-tidied_statement tidy false b body = refl
-tidied_statement tidy true b body = refl
+tidied_over : (tidy : Change) (once : Bool) (b : Formula) (body : Code) → tidied_code tidy [] (statement_over_groups once b body) ≡ statement_over_groups once (tidy [] b) (tidied_code tidy (statement_in once (start_of WorkGroup) b ∷ []) body)
+tidied_over tidy once b body = ap (tidied_code tidy []) (over once b body) ∙ tidied_statement tidy [] once (start_of WorkGroup) (stride_of WorkGroup) b body ∙ sym (over once (tidy [] b) (tidied_code tidy (statement_in once (start_of WorkGroup) b ∷ []) body))
 
 module _ {A : Type 0} (loaded : TidiedLoadsArePrinted) (mapped : TidiedMapsArePrinted A) (num : A → ℕ) (forms : MapForms A) (l : Launch) (ins : ℕ → Marks) (fence : ℕ → Fencing) (tidy : Change) (keeps : KeepsValues tidy l) where
   -- within the map over groups
@@ -41,23 +42,18 @@ module _ {A : Type 0} (loaded : TidiedLoadsArePrinted) (mapped : TidiedMapsArePr
     outer = form_over_groups once
 
     abbrev around : List Around
-    around = statement_in once bound ∷ []
+    around = statement_in once (start_of WorkGroup) bound ∷ []
 
     abbrev tidied : Code → Code
     tidied = tidied_code tidy around
 
-    -- a group that takes a turn has an id below so many turns
     stands : (item i : ℕ) → i < turns → IsTurnOf l item WorkGroup i → StandsIn (ids_of l item) around (variables_in outer [] i)
-    stands item i lt own = by_form once
-      where
-        by_form : (once : Bool) → StandsIn (ids_of l item) (statement_in once bound ∷ []) (variables_in (form_over_groups once) [] i)
-        by_form false = (turns, is, lt, tt)
-        by_form true = (turns, is, (let from = own.1 in omega arith), tt)
+    stands item i lt own = entered l item [] [] once (start_of WorkGroup) (stride_of WorkGroup) bound turns i tt is lt own
 
     local_map : (env : (turn var : ℕ) → Marks) (u : Used) (len : A) (loads : LoadSet) (marks : ℕ → Marks) (b : Term A) (w : ℕ → Marks) (code rest : Code)
         → IsLocalMap num forms l ins fence outer turns env u len loads marks b w code rest → IsLocalMap num forms l ins fence outer turns env u len loads marks b w (tidied code) (tidied rest)
     local_map env u len loads marks b w code rest h = λ item i here lt own.
-        mapped l item ins num tidy around (variables_in outer [] i) (forms.local len) Local (num len) (env i) u.privates u.variables loads (marks i) (w i) b code rest keeps (stands item i lt own) (h item i here lt own)
+        mapped l item ins num tidy around (variables_in outer [] i) (forms.local len) Local (num len) (env i) u.privates u.variables loads (marks i) (w i) b code rest keeps here (stands item i lt own) (h item i here lt own)
 
     mutual
       group_argument : (env : (turn var : ℕ) → Marks) (u : Used) (t : Term A) (code rest : Code)
@@ -91,7 +87,7 @@ module _ {A : Type 0} (loaded : TidiedLoadsArePrinted) (mapped : TidiedMapsArePr
     group_turn env loads marks b w code h = (
       tidied h.0,
       tidied h.1,
-      λ item i here lt own. loaded l item ins tidy around (variables_in outer [] i) loads (at_index i marks) 0 code h.0 keeps (stands item i lt own) (h.2 item i here lt own),
+      λ item i here lt own. loaded l item ins tidy around (variables_in outer [] i) loads (at_index i marks) 0 code h.0 keeps here (stands item i lt own) (h.2 item i here lt own),
       group_written (λ i. push (loaded_marks loads (at_index i marks) 0) env) (record { locals = 0; privates = 0; variables = load_count loads; phases = 0 }) b (λ i. at_index i w) h.0 h.1 h.3,
       past tidy around (fence (phases_in b)) h.1 End h.4,
     )
@@ -101,8 +97,8 @@ module _ {A : Type 0} (loaded : TidiedLoadsArePrinted) (mapped : TidiedMapsArePr
   over_groups env (LetArray v b) w code h = over_groups (push (argument_marks l ins num env 0 v) env) b w code h
   over_groups env (Map WorkGroup n loads xs b) w code h = (
     tidy [] h.0,
-    tidied_code tidy (statement_in (forms.once n) h.0 ∷ []) h.1,
-    ap (tidied_code tidy []) h.2 ∙ tidied_statement tidy (forms.once n) h.0 h.1,
+    tidied_code tidy (statement_in (forms.once n) (start_of WorkGroup) h.0 ∷ []) h.1,
+    ap (tidied_code tidy []) h.2 ∙ tidied_over tidy (forms.once n) h.0 h.1,
     keeps.bound h.0 (num n) h.3,
     group_turn (forms.once n) h.0 (num n) h.3 env loads (argument_marks l ins num env 0 xs) b w h.1 h.4,
   )

@@ -1,7 +1,7 @@
 -- Tidied, a term's code is printed for the term.
-use Rattle.std.proofs.Common.{ℕ, ◌+◌, ◌<◌, List, [], ◌∷◌, ◌++◌, ap, subst}
-use Rattle.kernel_tree.specs.Code.{Private, Code, End}
-use Rattle.kernel_tree.specs.Launch.{Launch, ids_of}
+use Rattle.std.proofs.Common.{ℕ, ◌+◌, ◌<◌, List, [], ◌∷◌, ◌++◌, ap}
+use Rattle.kernel_tree.specs.Code.{Private, Start, Stride, Code, End}
+use Rattle.kernel_tree.specs.Launch.{Launch, item_count, ids_of}
 use Rattle.lift_ir.specs.Types.{width}
 use Rattle.lift_ir.specs.Layouts.{result_position}
 use Rattle.lift_ir.specs.Terms.{LoadSet, Kind, Sequential, PrivateMemory, Term, Bound, Source, Both, Project, Reshape, LetArray, LetElement, Map, Fold, Store, Copy, push}
@@ -9,16 +9,17 @@ use Rattle.lift_ir.specs.Scalars.{at_index}
 use Rattle.printed_form.specs.Counts.{let_variables, load_count, variable_count, private_count}
 use Rattle.printed_form.specs.Marks.{Marks, laid_in, held_marks, loaded_marks}
 use Rattle.printed_form.specs.Expressions.{held, exprs}
-use Rattle.printed_form.specs.Form.{argument_marks, start_of, IsLoop, IsFoldTurn, IsArgumentWork, IsWritten}
-use Rattle.printed_form.specs.MapForms.{MapForm, Looped, Guarded, Alone, AreTurns}
-use Rattle.tidy_indices.specs.Around.{Around, InLoop, InIf, StandsIn}
+use Rattle.printed_form.specs.Form.{argument_marks, start_of, stride_of, IsLoop, IsFoldTurn, IsArgumentWork, IsWritten}
+use Rattle.printed_form.specs.MapForms.{MapForm, Looped, Guarded, Alone}
+use Rattle.group_phases.specs.Strides.{AreTurnsFrom}
+use Rattle.tidy_indices.specs.Around.{Around, InLoop, StandsIn}
 use Rattle.tidy_indices.specs.Laws.{Change, KeepsValues}
 use Rattle.tidy_kernels.specs.Pass.{tidied_code}
 use Rattle.tidy_printed.specs.Terms.{IsMapTurn, TidiedMapsArePrinted}
 use Rattle.tidy_printed.proofs.Elements.{assigned, element}
-use Rattle.tidy_printed.proofs.Statements.{in_if, stored, loaded, loop, fold_turn}
+use Rattle.tidy_printed.proofs.Statements.{stored, loaded, loop, turns, fold_turn}
 
-module _ {A : Type 0} (l : Launch) (item : ℕ) (ins : ℕ → Marks) (num : A → ℕ) (tidy : Change) (keeps : KeepsValues tidy l) where
+module _ {A : Type 0} (l : Launch) (item : ℕ) (ins : ℕ → Marks) (num : A → ℕ) (tidy : Change) (keeps : KeepsValues tidy l) (in_launch : item < item_count l) where
   -- what is written for a term, tidied, is written for it, in whatever loops
   abbrev Stays : Term A → Type 0
   Stays b = (around : List Around) (ts : List ℕ) → StandsIn (ids_of l item) around ts → (env : ℕ → Marks) (a n : ℕ) (w : Marks) (code rest : Code)
@@ -29,7 +30,7 @@ module _ {A : Type 0} (l : Launch) (item : ℕ) (ins : ℕ → Marks) (num : A �
       → Stays b → IsMapTurn l item ins num env a n loads x w b ts i body last → IsMapTurn l item ins num env a n loads x w b ts i (tidied_code tidy around body) (tidied_code tidy around last)
   map_turn around ts stands env a n loads x w b i body last stays turn = (
     tidied_code tidy around turn.0,
-    loaded l item ins tidy keeps around ts stands loads (at_index i x) n body turn.0 turn.1,
+    loaded l item ins tidy keeps in_launch around ts stands loads (at_index i x) n body turn.0 turn.1,
     stays around ts stands (push (loaded_marks loads (at_index i x) n) env) a (n + load_count loads) (at_index i w) turn.0 last turn.2,
   )
 
@@ -38,26 +39,18 @@ module _ {A : Type 0} (l : Launch) (item : ℕ) (ins : ℕ → Marks) (num : A �
       → Stays b → IsLoop l item ins kind len (λ i body. IsMapTurn l item ins num env a n loads x w b (ts ++ i ∷ []) i body End) code rest
       → IsLoop l item ins kind len (λ i body. IsMapTurn l item ins num env a n loads x w b (ts ++ i ∷ []) i body End) (tidied_code tidy around code) (tidied_code tidy around rest)
   map_loop around ts stands kind len env a n loads x w b code rest stays h =
-      loop l item ins tidy keeps around ts stands kind len (λ i body. IsMapTurn l item ins num env a n loads x w b (ts ++ i ∷ []) i body End)
+      loop l item ins tidy keeps in_launch around ts stands kind len (λ i body. IsMapTurn l item ins num env a n loads x w b (ts ++ i ∷ []) i body End)
       code rest
       (λ bound i body at turn. map_turn (around ++ InLoop bound ∷ []) (ts ++ i ∷ []) at env a n loads x w b i body End stays turn)
       h
 
   -- and all its turns in a form
-  map_turns : (around : List Around) (ts : List ℕ) → StandsIn (ids_of l item) around ts → (form : MapForm) (kind : Kind) (len : ℕ) (env : ℕ → Marks) (a n : ℕ) (loads : LoadSet) (x w : Marks) (b : Term A) (code rest : Code)
-      → Stays b → AreTurns l item ins form kind ts len (IsMapTurn l item ins num env a n loads x w b) code rest
-      → AreTurns l item ins form kind ts len (IsMapTurn l item ins num env a n loads x w b) (tidied_code tidy around code) (tidied_code tidy around rest)
-  map_turns around ts stands Looped kind len env a n loads x w b code rest stays h = map_loop around ts stands kind len env a n loads x w b code rest stays h
-  map_turns around ts stands Guarded kind len env a n loads x w b code rest stays h = (
-    tidy [] h.0,
-    tidied_code tidy (around ++ InIf (start_of kind) h.0 ∷ []) h.1,
-    ap (tidied_code tidy around) h.2,
-    keeps.bound h.0 len h.3,
-    λ i lt own.
-        let entered = in_if (ids_of l item) around ts (start_of kind) h.0 len stands h.3 (subst (λ k. k < len) own lt) in
-        map_turn (around ++ InIf (start_of kind) h.0 ∷ []) ts entered env a n loads x w b i h.1 End stays (h.4 i lt own),
-  )
-  map_turns around ts stands Alone kind len env a n loads x w b code rest stays h = λ i lt own. map_turn around ts stands env a n loads x w b i code rest stays (h i lt own)
+  pub map_turns : (around : List Around) (ts : List ℕ) → StandsIn (ids_of l item) around ts → (form : MapForm) (s : Start) (c : Stride) (len : ℕ) (env : ℕ → Marks) (a n : ℕ) (loads : LoadSet) (x w : Marks) (b : Term A) (code rest : Code)
+      → Stays b → AreTurnsFrom l item form s c ts len (IsMapTurn l item ins num env a n loads x w b) code rest
+      → AreTurnsFrom l item form s c ts len (IsMapTurn l item ins num env a n loads x w b) (tidied_code tidy around code) (tidied_code tidy around rest)
+  map_turns around ts stands form s c len env a n loads x w b code rest stays h =
+      turns l item ins tidy keeps in_launch around ts stands form s c len (IsMapTurn l item ins num env a n loads x w b) code rest
+      (λ around ts stands i body last turn. map_turn around ts stands env a n loads x w b i body last stays turn) h
 
   mutual
     pub argument : (around : List Around) (ts : List ℕ) → StandsIn (ids_of l item) around ts → (env : ℕ → Marks) (a n : ℕ) (t : Term A) (code rest : Code)
@@ -79,7 +72,7 @@ module _ {A : Type 0} (l : Launch) (item : ℕ) (ins : ℕ → Marks) (num : A �
     pub written : (around : List Around) (ts : List ℕ) → StandsIn (ids_of l item) around ts → (env : ℕ → Marks) (a n : ℕ) (t : Term A) (w : Marks) (code rest : Code)
         → IsWritten l item ins num ts env a n t w code rest → IsWritten l item ins num ts env a n t w (tidied_code tidy around code) (tidied_code tidy around rest)
     written around ts stands env a n (Store ty t) w code rest h =
-        (tidied_code tidy around h.0, element tidy around env n t code h.0 h.1, stored l item ins tidy keeps around ts stands ty (exprs env n t) w h.0 rest h.2)
+        (tidied_code tidy around h.0, element tidy around env n t code h.0 h.1, stored l item ins tidy keeps in_launch around ts stands ty (exprs env n t) w h.0 rest h.2)
     written around ts stands env a n (Reshape y t) w code rest h = (h.0, written around ts stands env a n t (λ cs q. w cs (result_position num y q)) code rest h.1)
     written around ts stands env a n (LetArray v b) w code rest h = (
       tidied_code tidy around h.0,
@@ -109,13 +102,21 @@ module _ {A : Type 0} (l : Launch) (item : ℕ) (ins : ℕ → Marks) (num : A �
           argument around ts stands env a n xs code h.0 h.4,
           element tidy around env (n + variable_count xs) s h.0 h.1 h.5,
           assigned tidy around ty (exprs env (n + variable_count xs) s) acc h.1 h.2 h.6,
-          loop l item ins tidy keeps around ts stands Sequential (num len) (λ i body. IsFoldTurn l item ins (ts ++ i ∷ []) env loads ty (at_index i x) acc b body) h.2 h.3
-              (λ bound i body at turn. fold_turn l item ins tidy keeps (around ++ InLoop bound ∷ []) (ts ++ i ∷ []) at env loads ty (at_index i x) acc b body turn)
+          loop l item ins tidy keeps in_launch around ts stands Sequential (num len) (λ i body. IsFoldTurn l item ins (ts ++ i ∷ []) env loads ty (at_index i x) acc b body) h.2 h.3
+              (λ bound i body at turn. fold_turn l item ins tidy keeps in_launch (around ++ InLoop bound ∷ []) (ts ++ i ∷ []) at env loads ty (at_index i x) acc b body turn)
               h.7,
-          stored l item ins tidy keeps around ts stands ty (λ cs. held (held_marks ty acc cs [])) (at_index 0 w) h.3 rest h.8,
+          stored l item ins tidy keeps in_launch around ts stands ty (λ cs. held (held_marks ty acc cs [])) (at_index 0 w) h.3 rest h.8,
         )
     written around ts stands env a n _ w code rest h = absurd h
 
+-- and any body stays
+pub body_stays : {A : Type 0} (l : Launch) (item : ℕ) (ins : ℕ → Marks) (num : A → ℕ) (tidy : Change) (keeps : KeepsValues tidy l) (in_launch : item < item_count l) (b : Term A) → Stays l item ins num tidy keeps in_launch b
+body_stays l item ins num tidy keeps in_launch b around ts stands env a n w code rest h = written l item ins num tidy keeps in_launch around ts stands env a n b w code rest h
+
 pub maps_are : {A : Type 0} → TidiedMapsArePrinted A
-maps_are l item ins num tidy around ts form kind len env a n loads x w b code rest keeps stands h =
-    map_turns l item ins num tidy keeps around ts stands form kind len env a n loads x w b code rest (λ around ts stands env a n w code rest h. written l item ins num tidy keeps around ts stands env a n b w code rest h) h
+maps_are l item ins num tidy around ts Looped kind len env a n loads x w b code rest keeps in_launch stands h =
+    map_turns l item ins num tidy keeps in_launch around ts stands Looped (start_of kind) (stride_of kind) len env a n loads x w b code rest (body_stays l item ins num tidy keeps in_launch b) h
+maps_are l item ins num tidy around ts Guarded kind len env a n loads x w b code rest keeps in_launch stands h =
+    map_turns l item ins num tidy keeps in_launch around ts stands Guarded (start_of kind) (stride_of kind) len env a n loads x w b code rest (body_stays l item ins num tidy keeps in_launch b) h
+maps_are l item ins num tidy around ts Alone kind len env a n loads x w b code rest keeps in_launch stands h =
+    map_turns l item ins num tidy keeps in_launch around ts stands Alone (start_of kind) (stride_of kind) len env a n loads x w b code rest (body_stays l item ins num tidy keeps in_launch b) h

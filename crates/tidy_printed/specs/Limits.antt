@@ -8,16 +8,17 @@ use Rattle.lift_tree.specs.Typing.{Declared}
 use Rattle.lift_ir.specs.AtLaunch.{shape_of}
 use Rattle.lift_ir.specs.Layouts.{Layout}
 use Rattle.lift_ir.specs.Types.{Shape, Ty, Scalar, PairOf, ArrayOf}
-use Rattle.lift_ir.specs.Terms.{LoadSet, Skip, Take, Each, Kind, Global, WorkGroup, Local, Sequential, Term, Bound, Source, Both, Project, Reshape, LetArray, LetElement, Map, Fold, Store, Copy, push}
+use Rattle.lift_ir.specs.Terms.{LoadSet, Skip, Take, Each, Kind, Global, WorkGroup, Local, Sequential, GlobalRows, WorkGroupRows, LocalRows, Term, Bound, Source, Both, Project, Reshape, LetArray, LetElement, Map, Fold, Store, Copy, push}
 use Rattle.lift_ir.specs.Scalars.{by_side}
 use Rattle.index_expr.specs.Expression.{Expression, Literal, short_nodes}
 use Rattle.length_spelling.specs.Formulas.{spelled_length}
-use Rattle.printed_form.specs.MapForms.{MapForm, Looped, Guarded, Alone, MapForms, form_over_groups}
+use Rattle.printed_form.specs.MapForms.{MapForm, Looped, Guarded, Alone, form_over_groups}
 use Rattle.printed_form.specs.Programs.{input_shape, lowered_root}
 use Rattle.array_views.specs.Arrays.{spelled_shape}
 use Rattle.array_views.specs.Layouts.{spelled_layout}
 use Rattle.array_views.specs.NodeCounts.{operand_nodes, result_nodes, placed_nodes}
-use Rattle.group_form.specs.ChosenForms.{forms_of}
+use Rattle.group_form.specs.GridChosen.{grid_forms_of}
+use Rattle.group_form.specs.GridTerms.{GridForms}
 
 -- how many nodes the index of a scalar may have, by its pair choices and the nodes of the indices;
 -- none where no array holds it
@@ -66,11 +67,14 @@ bound_limit Guarded n after = n ∷ after
 bound_limit Alone n after = after
 
 -- of a map of a kind
-abbrev pub form_of_map : {A : Type 0} → MapForms A → Kind → A → MapForm
+abbrev pub form_of_map : {A : Type 0} → GridForms A → Kind → A → MapForm
 form_of_map forms Sequential n = Looped
 form_of_map forms Global n = Looped
-form_of_map forms Local n = forms.local n
-form_of_map forms WorkGroup n = form_over_groups (forms.once n)
+form_of_map forms GlobalRows n = Looped
+form_of_map forms Local n = forms.columns.local n
+form_of_map forms LocalRows n = forms.rows.local n
+form_of_map forms WorkGroup n = form_over_groups (forms.columns.once n)
+form_of_map forms WorkGroupRows n = form_over_groups (forms.rows.once n)
 
 -- in arrays of this type, where lengths are spelled so
 abbrev pub array_nodes : {A : Type 0} → (A → Expression) → Shape A → IndexNodes
@@ -85,7 +89,7 @@ abbrev pub written_through : {A : Type 0} → (A → Expression) → Layout A �
 written_through spell y to = λ cs ns. to cs (result_nodes short_nodes (spelled_layout spell y) ns)
 
 -- lengths are spelled so, maps have these forms, and inputs these types
-module _ {A : Type 0} (spell : A → Expression) (forms : MapForms A) (src : ℕ → Shape A) where
+module _ {A : Type 0} (spell : A → Expression) (forms : GridForms A) (src : ℕ → Shape A) where
   -- what an argument's scalars may have, where the binders' have these
   abbrev pub argument_nodes : (ℕ → IndexNodes) → Term A → IndexNodes
   argument_nodes env (Bound v) = env v
@@ -136,8 +140,8 @@ module _ {A : Type 0} (spell : A → Expression) (forms : MapForms A) (src : ℕ
     written_limits env _ to after = after
 
 -- of a program's typed term, where this local size is fixed
-abbrev pub limits_of : Declared → (local : Option ℕ) → Tree → Annotation → List ℕ
+abbrev pub limits_of : Declared → (local : Option (ℕ × ℕ)) → Tree → Annotation → List ℕ
 limits_of d local t a =
-    written_limits (spelled_length d.names) (forms_of d.names local) (input_shape d.inputs)
+    written_limits (spelled_length d.names) (grid_forms_of d.names local) (input_shape d.inputs)
     (λ v. no_index) (lowered_root d.names t a)
     (array_nodes (spelled_length d.names) (shape_of (type_in a))) []

@@ -1,10 +1,10 @@
 -- What is printed for a term is printed for it when it is tidied: indices and bounds keep values.
-use Rattle.std.specs.Prelude.{ℕ, ◌+◌, List, [], Option}
+use Rattle.std.specs.Prelude.{ℕ, ◌+◌, ◌<◌, List, [], Option}
 use Rattle.lift_tree.specs.Tree.{Tree}
 use Rattle.lift_tree.specs.Typing.{Declared}
 use Rattle.lift_tree.specs.Annotations.{Annotation}
 use Rattle.kernel_tree.specs.Code.{Code, Kernel}
-use Rattle.kernel_tree.specs.Launch.{Launch, ids_of}
+use Rattle.kernel_tree.specs.Launch.{Launch, item_count, ids_of}
 use Rattle.barrier_placement.specs.Fencing.{Fencing}
 use Rattle.lift_ir.specs.Types.{Ty}
 use Rattle.lift_ir.specs.Terms.{LoadSet, Kind, Term, push}
@@ -15,6 +15,8 @@ use Rattle.printed_form.specs.Form.{IsLoaded, IsWritten}
 use Rattle.printed_form.specs.MapForms.{MapForm, MapForms, TurnCode, AreTurns}
 use Rattle.printed_form.specs.Whole.{IsCode}
 use Rattle.group_form.specs.Form.{IsOverGroups}
+use Rattle.group_form.specs.GridForm.{IsOverGrid}
+use Rattle.group_form.specs.GridTerms.{GridForms}
 use Rattle.group_form.specs.Kernels.{Printer, PrintsBy}
 use Rattle.tidy_indices.specs.Around.{Around, StandsIn}
 use Rattle.tidy_indices.specs.Laws.{Change, KeepsValues}
@@ -34,7 +36,7 @@ abbrev pub TidiedLoadsArePrinted : Type 0
 TidiedLoadsArePrinted =
     (l : Launch) (item : ℕ) (ins : ℕ → Marks) (tidy : Change) (around : List Around)
     (ts : List ℕ) (loads : LoadSet) (x : Marks) (n : ℕ) (code rest : Code)
-    → KeepsValues tidy l → StandsIn (ids_of l item) around ts
+    → KeepsValues tidy l → item < item_count l → StandsIn (ids_of l item) around ts
     → IsLoaded l item ins ts loads x n code rest
     → IsLoaded l item ins ts loads x n (tidied_code tidy around code) (tidied_code tidy around rest)
 
@@ -44,7 +46,7 @@ TidiedMapsArePrinted A =
     (l : Launch) (item : ℕ) (ins : ℕ → Marks) (num : A → ℕ) (tidy : Change)
     (around : List Around) (ts : List ℕ) (form : MapForm) (kind : Kind) (len : ℕ)
     (env : ℕ → Marks) (a n : ℕ) (loads : LoadSet) (x w : Marks) (b : Term A) (code rest : Code)
-    → KeepsValues tidy l → StandsIn (ids_of l item) around ts
+    → KeepsValues tidy l → item < item_count l → StandsIn (ids_of l item) around ts
     → AreTurns l item ins form kind ts len (IsMapTurn l item ins num env a n loads x w b) code rest
     → AreTurns l item ins form kind ts len (IsMapTurn l item ins num env a n loads x w b)
     (tidied_code tidy around code) (tidied_code tidy around rest)
@@ -65,10 +67,18 @@ TidiedGroupCodesArePrinted A =
     → KeepsValues tidy l → IsOverGroups num forms l ins fence env t to code
     → IsOverGroups num forms l ins fence env t to (tidied_code tidy [] code)
 
--- of a program's typed term, by either printer
+-- and of any term over work-groups in two dimensions
+abbrev pub TidiedGridCodesArePrinted : Type 0 → Type 0
+TidiedGridCodesArePrinted A =
+    (num : A → ℕ) (forms : GridForms A) (l : Launch) (ins : ℕ → Marks) (fence : ℕ → Fencing)
+    (env : ℕ → Marks) (tidy : Change) (t : Term A) (to : Marks) (code : Code)
+    → KeepsValues tidy l → IsOverGrid num forms l ins fence env t to code
+    → IsOverGrid num forms l ins fence env t to (tidied_code tidy [] code)
+
+-- of a program's typed term, by each printer
 abbrev pub TidiedKernelsArePrinted : Type 0
 TidiedKernelsArePrinted =
-    (p : Printer) (d : Declared) (size : Option ℕ) (bases : List ℕ) (t : Tree) (a : Annotation)
-    (l : Launch) (tidy : Change) (k : Kernel)
+    (p : Printer) (d : Declared) (size : Option (ℕ × ℕ)) (bases : List ℕ) (t : Tree)
+    (a : Annotation) (l : Launch) (tidy : Change) (k : Kernel)
     → KeepsValues tidy l → PrintsBy p d size bases t a l k
     → PrintsBy p d size bases t a l (tidied_kernel tidy k)

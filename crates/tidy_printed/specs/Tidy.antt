@@ -24,7 +24,7 @@ pub record IsTidyIndex (most : ℕ) (f : Formula) : Type 0 where
 
 -- so is each index of the kernel, which has no more nodes than the term's formulas put into one
 -- another, and each bound, which has no more than its length
-abbrev pub IsTidyFor : Declared → (local : Option ℕ) → Tree → Annotation → Kernel → Type 0
+abbrev pub IsTidyFor : Declared → (local : Option (ℕ × ℕ)) → Tree → Annotation → Kernel → Type 0
 IsTidyFor d local t a k = EachWithin IsTidyIndex (limits_of d local t a) (indices_then k.code [])
 
 -- in ifs, and in loops whose bounds spell index expressions, it makes of each such formula one

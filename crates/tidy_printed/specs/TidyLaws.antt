@@ -22,7 +22,8 @@ use Rattle.tidy_printed.specs.Tidy.{IsTidyFor, IsTidyIndex, MakesTidy}
 -- what is printed for a term has declared indices and bounds alone, within its limits
 abbrev pub TermsHaveIndexFormulas : Type 0
 TermsHaveIndexFormulas =
-    (p : Printer) (d : Declared) (size : Option ℕ) (fence : ℕ → Fencing) (t : Tree) (a : Annotation)
+    (p : Printer) (d : Declared) (size : Option (ℕ × ℕ)) (fence : ℕ → Fencing) (t : Tree)
+    (a : Annotation)
     →
     (let plain = kernel_by p (length_formula d.names) fence d size t a in AreNames d.names
     → StandsFor p (lowered_root d.names t a) → is_kernel plain ≡ true
@@ -31,8 +32,8 @@ TermsHaveIndexFormulas =
 -- once the kernel is tidied, they are tidy within the limits
 abbrev pub TidiedTermsAreTidy : Type 0
 TidiedTermsAreTidy =
-    (p : Printer) (d : Declared) (size : Option ℕ) (fence : ℕ → Fencing) (t : Tree) (a : Annotation)
-    (tidy : Change)
+    (p : Printer) (d : Declared) (size : Option (ℕ × ℕ)) (fence : ℕ → Fencing) (t : Tree)
+    (a : Annotation) (tidy : Change)
     →
     (let plain = kernel_by p (length_formula d.names) fence d size t a in AreNames d.names
     → StandsFor p (lowered_root d.names t a) → is_kernel plain ≡ true

@@ -32,4 +32,6 @@ mod terms;
 #[cfg(test)]
 mod traces;
 #[cfg(test)]
+mod two_dimensions;
+#[cfg(test)]
 mod values;

@@ -205,10 +205,13 @@ fn a_task_may_fix_groups_of_one(rt: HostRuntime) -> Result<(), Fail> {
     Ok(())
 }
 
-// Larger groups of one work-item's kernel would idle. The root's own rules come before.
-const IDLE: [(&str, &str); 3] = [
+// Larger groups of one work-item's kernel would idle, and so would rows of a map along one. The
+// root's own rules come before.
+const IDLE: [(&str, &str); 5] = [
     ("launch local 2\nat . to-seq", "lift: nest: N12 at .\n"),
     ("launch local 256\nat . to-seq", "lift: nest: N12 at .\n"),
+    ("launch local 1 2\nat . to-seq", "lift: nest: N12 at .\n"),
+    ("launch local 2 2\nat . to-glb", "lift: nest: N12 at .\n"),
     ("launch local 2", "lift: nest: N1 at .\n"),
 ];
 
@@ -219,13 +222,15 @@ fn a_task_fixes_no_larger_groups(rt: HostRuntime) -> Result<(), Fail> {
     Ok(())
 }
 
-// No size, or one that is none of a group's, a second one, and one behind a step.
-const NO_SIZES: [(&str, &str); 6] = [
+// No size, or one that is none of a group's, a third number, a second line, and one behind a step.
+const NO_SIZES: [(&str, &str); 8] = [
     ("launch local\nat . to-glb", "lift: script: line 1\n"),
     ("launch local 0\nat . to-glb", "lift: script: line 1\n"),
     ("launch local 257\nat . to-glb", "lift: script: line 1\n"),
+    ("launch local 2 0\nat . to-glb", "lift: script: line 1\n"),
+    ("launch local 16 17\nat . to-glb", "lift: script: line 1\n"),
     (
-        "# pairs\nlaunch local 2 2\nat . to-glb",
+        "# pairs\nlaunch local 2 2 2\nat . to-glb",
         "lift: script: line 2\n",
     ),
     (

@@ -144,7 +144,7 @@ module _ (l : Launch) (tiles : ℕ) (xs out : List ℕ) (rest : ℕ) (h : AreTil
   added_printed = record {
     made = record {
       whole = h.whole;
-      flat = h.flat;
+      flat = λ e. h.flat;
       some = h.some_items;
       few = few;
       typed = added_typed;
@@ -343,7 +343,7 @@ module _ (l : Launch) (tiles : ℕ) (xs out : List ℕ) (rest : ℕ) (h : AreTil
   sums_printed = record {
     made = record {
       whole = h.whole;
-      flat = h.flat;
+      flat = λ e. h.flat;
       some = h.some_items;
       few = few l tiles xs out rest h;
       typed = sums_typed;

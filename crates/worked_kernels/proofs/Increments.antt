@@ -57,8 +57,11 @@ all_listed xs zero i lt =
     ([], i ∷ [], (low, tt), refl, omega arith, get_or-map (λ x. (x + 1) % 2 ^ 32) xs i 0 0 low)
 all_listed xs (suc a) i lt = absurd (omega arith)
 
-one_row : (n : ℕ) (out : List ℕ) → length out ≡ n → map length (out ∷ []) ≡ n * 1 ∷ []
+pub one_row : (n : ℕ) (out : List ℕ) → length out ≡ n → map length (out ∷ []) ≡ n * 1 ∷ []
 one_row n out e = ap (λ k. k ∷ []) (let z : length out ≡ n * 1 = omega arith in z)
+
+first_row : (x g : ℕ) → x + 0 * g ≡ x
+first_row x g = omega arith
 
 -- at every launch over fewer than 2^31 elements
 pub increments_keep : IncrementsKeep
@@ -67,7 +70,7 @@ increments_keep l xs out rest whole flat some few sizes small room s es start r 
     (record {
       made = record {
         whole = whole;
-        flat = flat;
+        flat = λ e. flat;
         some = some;
         few = few;
         typed = typed (length xs) small;
@@ -80,4 +83,4 @@ increments_keep l xs out rest whole flat some few sizes small room s es start r 
       code = inr (λ item lt. written l item (length xs) sizes);
     })
     (ap (λ n. n ∷ []) (length-map xs (λ x. (x + 1) % 2 ^ 32) ∙ sym room)) (all_listed xs) s es start r in
-    record { leaves = h.leaves; by_owner = λ x among a i w. h.by_owner x among a i w ∙ ap (λ j. j % l.global.0) (let z : i / 1 ≡ i = omega arith in z) }
+    record { leaves = h.leaves; by_owner = λ x among a i w. h.by_owner x among a i w ∙ ap (λ j. j % l.global.0 + 0 * l.global.0) (let z : i / 1 ≡ i = omega arith in z) ∙ first_row (i % l.global.0) l.global.0 }

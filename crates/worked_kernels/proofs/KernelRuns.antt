@@ -126,7 +126,7 @@ sums_printed : (rest out : ℕ) → IsPrinted one_item itself sums_types sums_in
 sums_printed rest out = record {
   made = record {
     whole = one_is_whole;
-    flat = flat_in_a_row 1 1 [];
+    flat = λ e. flat_in_a_row 1 1 [];
     some = omega arith;
     few = omega arith;
     typed = sums_typed;
@@ -212,7 +212,7 @@ swaps_printed : (rest o p : ℕ) → IsPrinted one_item itself swaps_types swaps
 swaps_printed rest o p = record {
   made = record {
     whole = one_is_whole;
-    flat = flat_in_a_row 1 1 [];
+    flat = λ e. flat_in_a_row 1 1 [];
     some = omega arith;
     few = omega arith;
     typed = swaps_typed;

@@ -4,5 +4,6 @@ pub mod TileRuns
 mod GroupRuns
 mod KernelRuns
 mod Increments
+mod RowIncrements
 mod TidyIndices
 mod LoweredTerms

@@ -4,7 +4,7 @@ use Rattle.lift_tree.proofs.Sizes.{value-constant}
 use Rattle.lift_ir.specs.Types.{Scalar, ArrayOf}
 use Rattle.lift_ir.specs.AtLaunch.{natural, length_at}
 use Rattle.lift_tree.specs.Types as types
-use Rattle.worked_kernels.specs.Terms.{five, IncrementsAreLowered, SumsAreLowered}
+use Rattle.worked_kernels.specs.Terms.{five, IncrementsAreLowered, RowIncrementsAreLowered, SumsAreLowered}
 
 pub increments_are_lowered : IncrementsAreLowered
 increments_are_lowered d bases n e small = record {
@@ -12,6 +12,14 @@ increments_are_lowered d bases n e small = record {
   nodes = (types.U32, n, e, refl, (refl, (omega arith, refl), (refl, refl, refl)), refl);
   lowerable = (small, tt, (tt, tt, tt));
   staged = (tt, (tt, tt));
+}
+
+pub row_increments_are_lowered : RowIncrementsAreLowered
+row_increments_are_lowered d bases n m e rows columns = record {
+  same = refl;
+  nodes = (types.ArrayOf types.U32 m, n, e, refl, (types.U32, m, refl, refl, (refl, (omega arith, refl), (refl, refl, refl)), refl), refl);
+  lowerable = (rows, tt, (columns, tt, (tt, tt, tt)));
+  staged = (tt, (tt, (tt, tt)));
 }
 
 pub sums_are_lowered : SumsAreLowered

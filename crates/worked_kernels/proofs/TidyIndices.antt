@@ -21,7 +21,7 @@ pub joins_are_tidied : JoinsAreTidied
 joins_are_tidied = (sixes_stay, (turns_stay 9 (omega arith), (turns_stay 1 (omega arith), tt)))
 
 pub joins_do_not_stay : JoinsDoNotStay
-joins_do_not_stay h = h.1.0.irredundant.0 (CellOfParts 2 3)
+joins_do_not_stay h = h.1.0.irredundant.0 (CellOfParts 4 3)
 
 pub indices_do_not_grow : IndicesDoNotGrow
 indices_do_not_grow h = let few = h.1.0.short in absurd (omega arith)

@@ -11,6 +11,7 @@ use Rattle.index_expr.specs.declared.operation.Operation.TheVariants.{Product, Q
 use Rattle.index_expr.specs.Expression as index
 use Rattle.index_expr.specs.Expression.{Expression, Literal}
 use Rattle.printed_form.specs.MapForms.{all_loops}
+use Rattle.group_form.specs.GridTerms.{GridForms}
 use Rattle.tidy_indices.specs.Tidy.{tidy_formula}
 use Rattle.tidy_kernels.specs.Pass.{tidied_code}
 use Rattle.tidy_printed.specs.Indices.{EachWithin, indices_then}
@@ -28,13 +29,17 @@ copying b i =
 abbrev pub turn : Formula
 turn = LoopVariable 0
 
+-- each map is a loop, of rows and along them
+abbrev pub loops_alone : GridForms Expression
+loops_alone = record { rows = all_loops; columns = all_loops }
+
 -- what a copy of an array may have, so many of whose elements are copied: the array is made of an
 -- input of this type
 abbrev pub copy_limits : (length : Expression) → (input : Shape Expression)
     → (array : Term Expression)
     → List ℕ
 copy_limits n input xs =
-    written_limits (λ e. e) all_loops (λ v. input) (λ v. no_index)
+    written_limits (λ e. e) loops_alone (λ v. input) (λ v. no_index)
     (Map Sequential n Take xs (Store Scalar (Bound 0))) (array_nodes (λ e. e) (ArrayOf n Scalar)) []
 
 -- so the code has

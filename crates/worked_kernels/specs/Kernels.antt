@@ -1,13 +1,13 @@
 -- Worked kernels.
-use Rattle.std.specs.Prelude.{◌≡◌, ℕ, ◌+◌, ◌%◌, ◌<◌, ◌^◌, true, false, List, [], ◌∷◌, length, map, None}
+use Rattle.std.specs.Prelude.{◌≡◌, ℕ, ◌+◌, ◌*◌, ◌/◌, ◌%◌, ◌<◌, ◌^◌, true, false, List, [], ◌∷◌, length, map, None}
 use Rattle.scalar_ops.specs.declared.op.Op.TheVariants.{Add, Mul}
-use Rattle.kernel_tree.specs.declared.tree.Dimension.TheVariants.{X}
-use Rattle.kernel_tree.specs.Formula.{Number, Variable, LoopVariable, Size, Binary}
+use Rattle.kernel_tree.specs.declared.tree.Dimension.TheVariants.{X, Y}
+use Rattle.kernel_tree.specs.Formula.{Formula, Number, Variable, LoopVariable, Size, Binary}
 use Rattle.kernel_tree.specs.Code.{Input, Output, Private, FromZero, ByOne, FromGlobalId, ByGlobalSize, Code, End, Performs, Assigns, Loads, Stores, Loops, Kernel}
-use Rattle.kernel_tree.specs.Launch.{Launch, Cells, IsWhole, IsFlat, in_a_row, item_count}
+use Rattle.kernel_tree.specs.Launch.{Launch, Cells, IsWhole, IsFlat, in_a_row, item_at, item_count}
 use Rattle.lift_ir.specs.Types.{Scalar, PairOf, ArrayOf}
 use Rattle.lift_ir.specs.Layouts.{Split, Join}
-use Rattle.lift_ir.specs.Terms.{Skip, Take, Global, Sequential, PrivateMemory, Term, Literal, Bound, Source, Apply, Both, Project, Reshape, Map, Fold, Store, Copy}
+use Rattle.lift_ir.specs.Terms.{Skip, Take, Global, GlobalRows, Sequential, PrivateMemory, Term, Literal, Bound, Source, Apply, Both, Project, Reshape, Map, Fold, Store, Copy}
 use Rattle.printed_form.specs.Headline.{EveryRunKeeps}
 
 -- one work-item, and no sizes
@@ -197,4 +197,51 @@ IncrementsKeep =
     → item_count l < 2 ^ 31 → l.sizes ≡ length xs ∷ [] → length xs < 2 ^ 31
     → length out ≡ length xs
     → EveryRunKeeps increments_kernel l (increments_cells xs out rest) (λ array i. i % l.global.0)
+    (incremented xs ∷ [])
+
+-- ---- a pair of maps over the launch that adds 1 to each element of N rows of M
+abbrev pub row_increments : (n m : ℕ) → Term ℕ
+row_increments n m =
+    Map GlobalRows n Skip (Source 0)
+    (Map Global m Take (Bound 0) (Store Scalar (Apply Add (Bound 0) (Literal 1))))
+
+-- i0 * s1 + i1
+abbrev pub place_in_rows : Formula
+place_in_rows = Binary Add (Binary Mul (LoopVariable 0) (Size 1)) (LoopVariable 1)
+
+-- o0[i0 * s1 + i1] = (v0 + 1u);
+abbrev pub place_store : Code
+place_store = Performs (Stores (Output 0) place_in_rows (Binary Add (Variable 0) (Number 1))) End
+
+-- v0 = a0[i0 * s1 + i1]; and one more is stored
+abbrev pub place_body : Code
+place_body = Performs (Loads 0 (Input 0) place_in_rows) place_store
+
+-- for (uint i1 = (uint)get_global_id(0); i1 < s1; i1 += (uint)get_global_size(0)) ..
+abbrev pub along_row : Code
+along_row = Loops (FromGlobalId X) (Size 1) (ByGlobalSize X) place_body End
+
+-- for (uint i0 = (uint)get_global_id(1); i0 < s0; i0 += (uint)get_global_size(1)) that loop
+abbrev pub row_increments_kernel : Kernel
+row_increments_kernel = record {
+  inputs = 1;
+  outputs = 1;
+  sizes = 2;
+  locals = [];
+  privates = [];
+  variables = 1;
+  vectors = 0;
+  local = None;
+  code = Loops (FromGlobalId Y) (Size 0) (ByGlobalSize Y) along_row End;
+}
+
+-- at every launch in two dimensions, over fewer than 2^31 elements, every run leaves the sums: that
+-- of row i and column j is written by the work-item of row i modulo G1 and column j modulo G0
+abbrev pub RowIncrementsKeep : Type 0
+RowIncrementsKeep =
+    (l : Launch) (n m : ℕ) (xs out : List ℕ) (rest : ℕ) → IsWhole l → 0 < item_count l
+    → item_count l < 2 ^ 31 → l.sizes ≡ n ∷ m ∷ [] → n < 2 ^ 31 → m < 2 ^ 31 → n * m < 2 ^ 31
+    → length xs ≡ n * m → length out ≡ n * m
+    → EveryRunKeeps row_increments_kernel l (increments_cells xs out rest)
+    (λ array place. item_at l (place % m % l.global.0) (place / m % l.global.1))
     (incremented xs ∷ [])

@@ -7,6 +7,8 @@ use Rattle.lift_tree.specs.declared.term.Operator.TheVariants as operator
 use Rattle.lift_tree.specs.declared.term.UnaryForm.TheVariants as unary
 use Rattle.lift_tree.specs.declared.term.BinaryForm.TheVariants as binary
 use Rattle.lift_tree.specs.declared.term.MapKind.TheVariants as map_kind
+use Rattle.lift_tree.specs.declared.term.Level.TheVariants.{Launch}
+use Rattle.lift_tree.specs.declared.term.Dimension.TheVariants.{X, Y}
 use Rattle.lift_tree.specs.declared.term.FoldKind.{FoldKind}
 use Rattle.lift_tree.specs.Tree as tree
 use Rattle.lift_tree.specs.Tree.{Tree}
@@ -14,7 +16,7 @@ use Rattle.lift_tree.specs.Types as types
 use Rattle.lift_tree.specs.Typing.{Declared, constant}
 use Rattle.lift_tree.specs.Annotations.{Annotation, Leaf, One, Two, Three, Annotates}
 use Rattle.lift_ir.specs.Types.{Scalar, ArrayOf}
-use Rattle.lift_ir.specs.Terms.{Take, PrivateMemory, Global, Sequential, Literal, Bound, Source, Apply, Map, Fold, Store, Copy}
+use Rattle.lift_ir.specs.Terms.{Skip, Take, PrivateMemory, Global, GlobalRows, Sequential, Literal, Bound, Source, Apply, Map, Fold, Store, Copy}
 use Rattle.lift_ir.specs.AtLaunch.{length_at}
 use Rattle.lift_ir.specs.Lowering.{Written, Lowered, lower}
 use Rattle.lift_ir.specs.Lowerable.{IsLowerable, IsStaged}
@@ -37,7 +39,7 @@ pub record IsLoweredTo (d : Declared) (bases : List ℕ) (t : Tree) (a : Annotat
 
 -- mapGlb(\x. x + 1, A)
 abbrev pub increments : Tree
-increments = tree.Map map_kind.Global (tree.Input 0) (sum (tree.Variable 0) (tree.Number 1))
+increments = tree.Map (map_kind.Over Launch X) (tree.Input 0) (sum (tree.Variable 0) (tree.Number 1))
 
 -- the types of its nodes, where A has n elements
 abbrev pub increments_types : List Monomial → Annotation
@@ -51,6 +53,29 @@ IncrementsAreLowered =
     → slice_get d.inputs 0 ≡ Some (types.ArrayOf types.U32 n) → length_at bases n < 2 ^ 31
     → IsLoweredTo d bases increments (increments_types n)
     (Map Global n Take (Source 0) (Store Scalar (Apply Add (Bound 0) (Literal 1))))
+
+-- mapGlb1(\r. mapGlb(\x. x + 1, r), A)
+abbrev pub row_increments : Tree
+row_increments =
+    tree.Map (map_kind.Over Launch Y) (tree.Input 0)
+    (tree.Map (map_kind.Over Launch X) (tree.Variable 0) (sum (tree.Variable 0) (tree.Number 1)))
+
+-- the types of its nodes, where A has n rows of m elements
+abbrev pub row_increments_types : (n m : List Monomial) → Annotation
+row_increments_types n m =
+    let rows = types.ArrayOf (types.ArrayOf types.U32 m) n in
+    Two rows (Leaf rows) (increments_types m)
+
+-- it is lowered to a map over rows of the launch around one along a row, between which no scalar
+-- is loaded
+abbrev pub RowIncrementsAreLowered : Type 0
+RowIncrementsAreLowered =
+    (d : Declared) (bases : List ℕ) (n m : List Monomial)
+    → slice_get d.inputs 0 ≡ Some (types.ArrayOf (types.ArrayOf types.U32 m) n)
+    → length_at bases n < 2 ^ 31 → length_at bases m < 2 ^ 31
+    → IsLoweredTo d bases row_increments (row_increments_types n m)
+    (Map GlobalRows n Skip (Source 0)
+    (Map Global m Take (Bound 0) (Store Scalar (Apply Add (Bound 0) (Literal 1)))))
 
 -- foldSeq(\a x. a + x, 0, toPrivate(mapSeq(\x. x + 1, A))), of 5 elements
 abbrev pub five : List Monomial

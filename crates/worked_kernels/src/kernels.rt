@@ -1,11 +1,12 @@
 //! Worked kernels by one work-item and over the launch, carried by a function that does nothing.
 
-ghost use Rattle.worked_kernels.specs.Kernels.{IncrementsKeep, SumsKeep, SwapsKeep};
+ghost use Rattle.worked_kernels.specs.Kernels.{IncrementsKeep, RowIncrementsKeep, SumsKeep, SwapsKeep};
 
-/// Worked kernels: one with a private array, one whose accumulator has two components, and a map
-/// over the launch at every launch of one row.
+/// Worked kernels: one with a private array, one whose accumulator has two components, a map
+/// over the launch at every launch of one row, and a pair of maps at every launch in two dimensions.
 pub fn worked_kernels_keep()
     ensures sums { SumsKeep }
     ensures swaps { SwapsKeep }
     ensures increments { IncrementsKeep }
+    ensures rows { RowIncrementsKeep }
 {}

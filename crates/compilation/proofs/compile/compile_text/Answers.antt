@@ -17,14 +17,14 @@ pub invariant_of-result : goal.invariant_of-result
 invariant_of-result c =
     let k = c.in_ok-kernel.ensures in
     record {
-      text_for = ∣ text_for c.args.program.now c.args.script.now c.in_ok-found.found.typed _ _ _ _ _ (kernel_of c.in_ok-kernel.kernel) c.own_type.ensures
-          (sym c.is_task.ensures) c.in_ok-found.ensures.last c.fixed-local.ensures.number k.laid_out k.kernel c.in_ok-text.ensures.text ∣₁;
+      text_for = ∣ text_for c.args.program.now c.args.script.now c.in_ok-found.found.typed _ _ _ _ (kernel_of c.in_ok-kernel.kernel) c.own_type.ensures
+          c.asks_of.ensures c.rows_are_on_top.ensures.asked c.in_ok-found.ensures.last k.accepted k.laid_out k.kernel c.in_ok-text.ensures.text ∣₁;
     }
 
 pub returns-clause-found : goal.returns-clause-found
 returns-clause-found c =
-    compiled_found c.args.program.now c.args.script.now c.in_ok-found.found.typed _ _ _ _ _ (kernel_of c.in_ok-kernel.kernel) c.own_type.ensures
-    (sym c.is_task.ensures) c.in_ok-found.ensures.last c.fixed-local.ensures.number c.in_ok-found.ensures.local c.in_ok-kernel.ensures.compiles c.in_ok-kernel.ensures.accepted c.in_ok-kernel.ensures.kernel c.in_ok-text.ensures.text
+    compiled_found c.args.program.now c.args.script.now c.in_ok-found.found.typed _ _ _ _ (kernel_of c.in_ok-kernel.kernel) c.own_type.ensures
+    c.asks_of.ensures c.rows_are_on_top.ensures.asked c.in_ok-found.ensures.last c.in_ok-found.ensures.local c.in_ok-kernel.ensures.compiles c.in_ok-kernel.ensures.accepted c.in_ok-kernel.ensures.kernel c.in_ok-text.ensures.text
 
 pub returns-in_err-found-clause-refused : goal.returns-in_err-found-clause-refused
 returns-in_err-found-clause-refused c =
@@ -62,6 +62,6 @@ returns-clause-exact c = λ why cause.
     let program = c.args.program.now in
     let script = c.args.script.now in
     let found =
-    compiled_found program script c.in_ok-found.found.typed _ _ _ _ _ (kernel_of c.in_ok-kernel.kernel) c.own_type.ensures
-    (sym c.is_task.ensures) c.in_ok-found.ensures.last c.fixed-local.ensures.number c.in_ok-found.ensures.local c.in_ok-kernel.ensures.compiles c.in_ok-kernel.ensures.accepted c.in_ok-kernel.ensures.kernel c.in_ok-text.ensures.text in
+    compiled_found program script c.in_ok-found.found.typed _ _ _ _ (kernel_of c.in_ok-kernel.kernel) c.own_type.ensures
+    c.asks_of.ensures c.rows_are_on_top.ensures.asked c.in_ok-found.ensures.last c.in_ok-found.ensures.local c.in_ok-kernel.ensures.compiles c.in_ok-kernel.ensures.accepted c.in_ok-kernel.ensures.kernel c.in_ok-text.ensures.text in
     made_stands _ (OnProgram program (λ p. LegalOf p script)) (text_one c.sources_end_once.ensures c.compilation_ends_once.ensures program script) _ why (_, found.read, found.legal) cause

@@ -1,4 +1,4 @@
-use Rattle.std.proofs.Common.{◌≡◌, sym}
+use Rattle.std.proofs.Common.{◌≡◌}
 use Rattle.fault_lines.specs.declared.refusal.Refusal.{Refusal}
 use Rattle.fault_lines.specs.declared.refusal.Refusal.TheVariants as told
 use Rattle.program_source.specs.Program.{OnProgram, StopsFor}
@@ -16,7 +16,7 @@ placed_last-requires c = record { typed = c.in_ok-found.ensures.within }
 pub returns-clause-found : goal.returns-clause-found
 returns-clause-found c =
     let made = c.in_ok-placed.ensures in
-    placed_found c.args.program.now c.args.script.now c.in_ok-found.found.typed _ _ _ c.in_ok-placed.placed (sym c.is_task.ensures) c.in_ok-found.ensures.last c.fixed-local.ensures.number c.in_ok-found.ensures.local made.compiles made.accepted made.placed
+    placed_found c.args.program.now c.args.script.now c.in_ok-found.found.typed _ _ c.in_ok-placed.placed c.asks_of.ensures c.in_ok-found.ensures.last c.in_ok-found.ensures.local made.compiles made.accepted made.placed
 
 pub returns-in_err-found-clause-refused : goal.returns-in_err-found-clause-refused
 returns-in_err-found-clause-refused c =
@@ -47,5 +47,5 @@ returns-clause-exact c = λ why cause.
     let program = c.args.program.now in
     let script = c.args.script.now in
     let made = c.in_ok-placed.ensures in
-    let found = placed_found program script c.in_ok-found.found.typed _ _ _ c.in_ok-placed.placed (sym c.is_task.ensures) c.in_ok-found.ensures.last c.fixed-local.ensures.number c.in_ok-found.ensures.local made.compiles made.accepted made.placed in
+    let found = placed_found program script c.in_ok-found.found.typed _ _ c.in_ok-placed.placed c.asks_of.ensures c.in_ok-found.ensures.last c.in_ok-found.ensures.local made.compiles made.accepted made.placed in
     made_stands _ (OnProgram program (λ p. LegalOf p script)) (text_one c.sources_end_once.ensures c.compilation_ends_once.ensures program script) _ why (_, found.read, found.legal) cause

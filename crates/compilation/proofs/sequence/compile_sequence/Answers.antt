@@ -62,7 +62,7 @@ invariant_of-result c =
     record {
       text_for = ∣ sequence_for c.args.program.now c.args.script.now c.in_ok-found.found.typed c.in_ok-found.ensures.last s.whole s.declared s.state (size_fixed c.in_ok-found.found.local) s.terms s.cut
           c.kernels_are_counted.ensures (map kernel_of c.in_ok-made.made.kernels.items) (map outline_of c.in_ok-made.made.outlines.items) s.made
-          c.in_ok-text.text.items texts c.sequences_keep.ensures c.last_kernels_make_the_output.ensures _ _ output c.fixed.ensures.number ∣₁;
+          c.in_ok-text.text.items texts c.sequences_keep.ensures c.last_kernels_make_the_output.ensures _ output ∣₁;
     }
 
 pub returns-clause-found : goal.returns-clause-found
@@ -72,7 +72,7 @@ returns-clause-found c =
     let texts = subst (λ ks. AreTexts 0 c.in_ok-text.text.items (map kernel_of ks)) c.deref.ensures.value c.in_ok-text.ensures.text in
     sequence_found c.args.program.now c.args.script.now c.in_ok-found.found.typed c.in_ok-found.ensures.last s.whole s.declared s.state (size_fixed c.in_ok-found.found.local) s.terms s.cut
     c.kernels_are_counted.ensures (map kernel_of c.in_ok-made.made.kernels.items) (map outline_of c.in_ok-made.made.outlines.items) s.made
-    c.in_ok-text.text.items texts c.sequences_keep.ensures _ _ output c.fixed.ensures.number c.in_ok-found.ensures.local
+    c.in_ok-text.text.items texts c.sequences_keep.ensures _ output c.in_ok-found.ensures.local
 
 pub returns-clause-exact : goal.returns-clause-exact
 returns-clause-exact c = λ why cause.
@@ -84,5 +84,5 @@ returns-clause-exact c = λ why cause.
     let found =
     sequence_found c.args.program.now c.args.script.now c.in_ok-found.found.typed c.in_ok-found.ensures.last s.whole s.declared s.state (size_fixed c.in_ok-found.found.local) s.terms s.cut
     c.kernels_are_counted.ensures (map kernel_of c.in_ok-made.made.kernels.items) (map outline_of c.in_ok-made.made.outlines.items) s.made
-    c.in_ok-text.text.items texts c.sequences_keep.ensures _ _ output c.fixed.ensures.number c.in_ok-found.ensures.local in
+    c.in_ok-text.text.items texts c.sequences_keep.ensures _ output c.in_ok-found.ensures.local in
     made_stands _ (OnProgram program (λ p. SequenceOf p script)) (sequence_text_one c.sources_end_once.ensures c.sequences_end_once.ensures program script) _ why (_, found.read, found.compiled) cause

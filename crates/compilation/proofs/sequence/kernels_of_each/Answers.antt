@@ -8,6 +8,7 @@ use Rattle.stages.proofs.HandedOn.{handed_on}
 use Rattle.program_source.specs.Program.{StopsFor}
 use Rattle.compilation.specs.Legal.{IsSoundLowered}
 use Rattle.compilation.specs.Sequence.{CompilesInTurn, outline_of}
+use Rattle.compilation.proofs.Legality.{asks_for_row}
 use Rattle.compilation.proofs.InTurn.{all_made, every_at, none_made, one_made, stops_among, turned}
 use Rattle.compilation.proofs.sequence.kernels_of_each.Goals as goal
 
@@ -45,7 +46,7 @@ loop-term-preserved c =
     let kernel = c.in_ok-kernel.ensures in
     let k = c.in_ok-kernel.kernel in
     one_made (size_fixed c.args.local) at.yielded _ _ _ _ c.in-Some.term (kernel_of k) (outline_of c.in_ok-outline.outline) at.invariant
-    (record { sound = sound; grammar = k.in_grammar; kernel = kernel.kernel })
+    (record { sound = sound; asked = asks_for_row c.rows_are_on_top.ensures.asked (size_fixed c.args.local) c.in-Some.term sound kernel.compiles; grammar = k.in_grammar; kernel = kernel.kernel })
     c.in_ok-outline.ensures kernel.laid_out kernel.compiles c.in_ok-push.ensures.kernels c.in_ok-push.ensures.outlines
 
 pub returns : goal.returns

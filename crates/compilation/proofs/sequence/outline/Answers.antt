@@ -2,4 +2,4 @@ use Rattle.std.proofs.Common.{◌∙◌}
 use Rattle.compilation.proofs.sequence.outline.Goals as goal
 
 pub returns : goal.returns
-returns c = λ i. record { alone = c.is_task.ensures i; output = (c.in_ok-output.ensures ∙ c.own_type.ensures) i }
+returns c = λ i. record { asks = c.asks_of.ensures i; output = (c.in_ok-output.ensures ∙ c.own_type.ensures) i }

@@ -1,4 +1,4 @@
-use Rattle.std.proofs.Common.{◌<◌, ◌/◌, subst, sym}
+use Rattle.std.proofs.Common.{◌<◌, subst}
 use Rattle.kernel_tree.specs.Launch.{Launch, first_item, group_count}
 use Rattle.lowered_tree.specs.Kinds.{asks_of}
 use Rattle.phase_plan.specs.Plans.{declared_in, local_in, tree_in}
@@ -12,12 +12,8 @@ pub loop-group-preserved : goal.loop-group-preserved
 loop-group-preserved c =
     let plan = c.args.plan.now in
     let l = c.args.launch.now in
-    let g = c.loop-group.group in
-    let whole = programs.whole l (asks_of (local_in plan) (tree_in plan)) (declared_in plan).names (bases_at plan l) c.requires.flat c.requires.admissible in
-    let row = c.layout.ensures.one_row c.args.launch.now c.requires.flat whole in
+    let whole = programs.whole l (asks_of (local_in plan) (tree_in plan)) (declared_in plan).names (bases_at plan l) c.requires.admissible in
     let laid = c.layout.ensures.whole c.args.launch.now whole in
-    let groups = row.groups in
-    let here : c.loop-group.group < c.args.launch.now.global.0 / c.args.launch.now.local.0 = subst (λ (x : Launch). c.loop-group.group < x.global.0 / x.local.0) c.launch.view_is c.loop-group-test.true in
-    let below : c.loop-group.group < group_count c.args.launch.now = subst (λ n. c.loop-group.group < n) (sym row.groups) here in
+    let below : c.loop-group.group < group_count c.args.launch.now = subst (λ (x : Launch). c.loop-group.group < group_count x) c.launch.view_is c.loop-group-test.true in
     let first = first_of c.args.launch.now laid c.loop-group.group below in
     sum_more (releases_at c.args.plan.now c.args.launch.now) c.loop-group.group c.loop-group.all c.releases.result c.saturating_add-all.result c.loop-group.invariant (c.releases.ensures (first_item c.args.launch.now c.loop-group.group) first.0 first.1) c.saturating_add-all.ensures

@@ -11,7 +11,7 @@ returns c =
       launches = c.launches_stand.ensures;
       unbroken = c.legal_nests_are_unbroken.ensures;
       bodies = c.item_bodies_stand.ensures;
-      lets = c.lets_around_groups_bind_no_element.ensures;
+      lets = c.lets_around_maps_bind_no_element.ensures;
       tests = c.element_tests_agree.ensures.alike;
       elements = c.element_tests_agree.ensures.passed;
     } in

@@ -1,4 +1,4 @@
-use Rattle.std.proofs.Common.{◌≡◌, ◌∙◌, ◌/◌, ◌%◌, ◌∷◌, ℕ, true, false, ap, sym, subst}
+use Rattle.std.proofs.Common.{◌≡◌, ◌∙◌, ◌/◌, ◌%◌, ◌∷◌, ℕ, true, false, ap, sym, subst, arith}
 use Rattle.lift_tree.specs.declared.term.UnaryForm.TheVariants.{Layout}
 use Rattle.lift_tree.specs.Annotations.{One, Two, annotation_of, type_in}
 use Rattle.lift_tree.specs.Tree.{Let, Map, Unary, tree_of}
@@ -7,7 +7,7 @@ use Rattle.lift_ir.specs.Lowering.{kind_of}
 use Rattle.launch_lengths.specs.Bases.{bases_of}
 use Rattle.output_owner.specs.Owners.{HaveOneOwner, map_over, position, written}
 use Rattle.output_owner.specs.Written.{IsScalarOf}
-use Rattle.output_owner.proofs.Through.{FoundOn, NoneOn, Steps, found_on, is_no_layout, map_body, map_found, of_bound_element, of_element, of_component, of_equal, of_no_layout, scalar_on, step_of, through, through_let}
+use Rattle.output_owner.proofs.Through.{FoundOn, NoneOn, Steps, found_on, is_no_layout, map_body, map_found, none_in_row, of_bound_element, of_element, of_component, of_equal, of_no_layout, scalar_on, step_of, through, through_let}
 use Rattle.output_owner.proofs.walk.+on_top.Goals as goal
 
 pub returns-then-is_element-clause-scalar : goal.returns-then-is_element-clause-scalar
@@ -124,6 +124,23 @@ returns-else-is_element-2-clause-body t c =
     let f : is_element (type_in n) ≡ false = cc in
     rw (c.in-Let.is, c.in-Two.is)
     (scalar_on names sizes (Let v b) (Two a n m) k b m k c.on_top-in-Two.result (λ top. IsScalarOf names sizes (tree_of top.body.now) (annotation_of top.types.now) top.number) (λ s. through_let names sizes v b a n m k s e f) (rw (c.deref-in-Two-2.ensures, c.deref-in-Two-3.ensures) at c.on_top-in-Two.ensures.body))
+
+pub returns-then-row-eq0-clause-scalar : goal.returns-then-row-eq0-clause-scalar
+returns-then-row-eq0-clause-scalar t c =
+    let names = c.args.names.now in
+    let sizes = c.args.sizes.now in
+    let xs = tree_of c.in-Map.field-1.value in
+    let b = tree_of c.in-Map.body.value in
+    let a = ty_of c.in-Two-types.field-0 in
+    let n = annotation_of c.in-Two-types.field-1.value in
+    let m = annotation_of c.in-Two-types.m.value in
+    let k = c.args.number in
+    let row = c.scalars-row.result in
+    let told = rw (c.own_type-in-Two-types.ensures, c.deref-in-Two-types.ensures) at c.scalars-row.ensures in
+    let yes = c.if-row-eq0.true in
+    let e : row ≡ 0 = omega (arith, yes) in
+    of_equal names sizes (NoneOn names sizes k) (tree_of c.args.term.now) (Map c.in-Map.kind xs b) (annotation_of c.args.types.now) (Two a n m) (ap tree_of c.in-Map.is) (ap annotation_of c.in-Two-types.is)
+    (none_in_row names sizes c.in-Map.kind xs b a n m k row told e)
 
 pub returns-else-row-eq0-clause-scalar : goal.returns-else-row-eq0-clause-scalar
 returns-else-row-eq0-clause-scalar t c =

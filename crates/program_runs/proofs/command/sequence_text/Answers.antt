@@ -15,4 +15,4 @@ returns-in_err-compiled-clause-refused c =
     (source_stops text (λ p. SequenceOf p script) _ c.in_err-compiled.ensures.refused)
 
 pub returns-clause-written : goal.returns-clause-written
-returns-clause-written c = record { source = _; output = _; local = _; outlines = _; compiled = c.in_ok-compiled.ensures.found }
+returns-clause-written c = record { source = _; output = _; outlines = _; compiled = c.in_ok-compiled.ensures.found }

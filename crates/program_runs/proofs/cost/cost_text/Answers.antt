@@ -3,9 +3,9 @@ use Rattle.lift_tree.specs.Launches.{Asks}
 use Rattle.lift_tree.specs.Programs.{program_of}
 use Rattle.lift_tree.specs.Typing.{declared_by}
 use Rattle.launch_file.specs.Judged.{Refuses}
-use Rattle.launch_file.specs.declared.file.Ask.TheVariants as asks
+use Rattle.launch_file.specs.LaunchFile as asks
 use Rattle.launch_file.specs.LaunchFile.{IsLaunchFile, given_by}
-use Rattle.lowered_tree.specs.Kinds.{is_task}
+use Rattle.lowered_tree.specs.Kinds.{asks_of}
 use Rattle.strategy_script.specs.LocalSize.{local_fixed}
 use Rattle.compilation.specs.Legal.{LegalOf}
 use Rattle.program_runs.proofs.Admitted.{launch_is_admissible}
@@ -32,11 +32,12 @@ cost_at-requires c =
     let found = c.in_ok-found.ensures.found in
     let local = local_fixed c.args.script.now in
     let g = given_by c.in-Ok.file in
-    let file = subst (λ (a : Asks). IsLaunchFile p (asks.Cost a.alone a.local) c.args.launch.now g) (sym found.asked) c.in-Ok.ensures.ok in
-    let same = given_bases c.bases_come_back.ensures p (is_task found.last.tree) local c.args.launch.now g found.accepted.legal.declared.names file in
+    let file = subst (λ (a : Asks). IsLaunchFile p (asks.Cost a) c.args.launch.now g) (sym found.asked) c.in-Ok.ensures.ok in
+    let same = given_bases c.bases_come_back.ensures p (asks_of local found.last.tree) c.args.launch.now g found.accepted.legal.declared.names file in
+    let rows = c.rows_are_on_top.ensures.asked (declared_by p) found.last.tree found.last.types local found.accepted.legal found.accepted.copies in
     record {
       arrays = found.term.arrays;
-      launch = launch_of_placed (declared_by p) local found.last c.in_ok-found.found.placed g.bases g.launch found.term same (launch_is_admissible p (asks.Cost (is_task found.last.tree) local) c.args.launch.now g file);
+      launch = launch_of_placed (declared_by p) local found.last c.in_ok-found.found.placed g.bases g.launch found.term same (launch_is_admissible p (asks.Cost (asks_of local found.last.tree)) c.args.launch.now g found.last.tree found.last.types rows file);
     }
 
 pub returns-in_ok-cost_at-in-Ok-clause-found : goal.returns-in_ok-cost_at-in-Ok-clause-found
@@ -45,8 +46,8 @@ returns-in_ok-cost_at-in-Ok-clause-found c =
     let found = c.in_ok-found.ensures.found in
     let local = local_fixed c.args.script.now in
     let g = given_by c.in-Ok.file in
-    let file = subst (λ (a : Asks). IsLaunchFile p (asks.Cost a.alone a.local) c.args.launch.now g) (sym found.asked) c.in-Ok.ensures.ok in
-    let same = given_bases c.bases_come_back.ensures p (is_task found.last.tree) local c.args.launch.now g found.accepted.legal.declared.names file in
+    let file = subst (λ (a : Asks). IsLaunchFile p (asks.Cost a) c.args.launch.now g) (sym found.asked) c.in-Ok.ensures.ok in
+    let same = given_bases c.bases_come_back.ensures p (asks_of local found.last.tree) c.args.launch.now g found.accepted.legal.declared.names file in
     record {
       source = p;
       read = found.read;
@@ -64,8 +65,8 @@ returns-in-Err-clause-refused c =
     let script = c.args.script.now in
     let launch = c.args.launch.now in
     subst (FailsFor (OnSource c.args.program.now (λ q. CostOf q script launch))) (sym c.for_launch.ensures)
-    (launch_fails c.args.program.now p (λ last. asks.Cost (is_task last.tree) (local_fixed script)) launch (λ q. LegalOf q script) _ c.in-Err.no found.read found.legal
-    (λ well. subst (λ (a : Asks). Refuses p (asks.Cost a.alone a.local) launch c.in-Err.no) (sym found.asked) (c.in-Err.ensures.refused well)))
+    (launch_fails c.args.program.now p (λ last. asks.Cost (asks_of (local_fixed script) last.tree)) launch (λ q. LegalOf q script) _ c.in-Err.no found.read found.legal
+    (λ well. subst (λ (a : Asks). Refuses p (asks.Cost a) launch c.in-Err.no) (sym found.asked) (c.in-Err.ensures.refused well)))
 
 pub returns-in_err-found-clause-refused : goal.returns-in_err-found-clause-refused
 returns-in_err-found-clause-refused c =
@@ -73,7 +74,7 @@ returns-in_err-found-clause-refused c =
     let script = c.args.script.now in
     let launch = c.args.launch.now in
     told_on failure_of (FailsFor (OnSource text (λ p. CostOf p script launch))) _ _ c.from_residual.ensures.1
-    (source_fails text (λ p. LegalOf p script) (λ p last. As (launch_failed p) (LaunchOf p (asks.Cost (is_task last.tree) (local_fixed script)) launch)) _ c.in_err-found.ensures.refused)
+    (source_fails text (λ p. LegalOf p script) (λ p last. As (launch_failed p) (LaunchOf p (asks.Cost (asks_of (local_fixed script) last.tree)) launch)) _ c.in_err-found.ensures.refused)
 
 pub returns-in_err-found-clause-exact : goal.returns-in_err-found-clause-exact
 returns-in_err-found-clause-exact c =
@@ -81,7 +82,7 @@ returns-in_err-found-clause-exact c =
     let script = c.args.script.now in
     let launch = c.args.launch.now in
     told_for text (λ p. CostOf p script launch) (c.one_end.ensures (Cost c.args.items) (text ∷ script ∷ launch ∷ [])) _ _ c.from_residual.ensures.1
-    (source_fails text (λ p. LegalOf p script) (λ p last. As (launch_failed p) (LaunchOf p (asks.Cost (is_task last.tree) (local_fixed script)) launch)) _ c.in_err-found.ensures.refused)
+    (source_fails text (λ p. LegalOf p script) (λ p last. As (launch_failed p) (LaunchOf p (asks.Cost (asks_of (local_fixed script) last.tree)) launch)) _ c.in_err-found.ensures.refused)
 
 pub returns-in_err-cost_at-in-Ok-clause-exact : goal.returns-in_err-cost_at-in-Ok-clause-exact
 returns-in_err-cost_at-in-Ok-clause-exact c =
@@ -98,13 +99,13 @@ returns-in-Err-clause-exact c =
     let found = c.in_ok-found.ensures.found in
     failed_for c.args.program.now (λ q. CostOf q script launch) (c.one_end.ensures (Cost c.args.items) (c.args.program.now ∷ script ∷ launch ∷ [])) (failure_of c.for_launch.result)
     (subst (FailsFor (OnSource c.args.program.now (λ q. CostOf q script launch))) (sym c.for_launch.ensures)
-    (launch_fails c.args.program.now p (λ last. asks.Cost (is_task last.tree) (local_fixed script)) launch (λ q. LegalOf q script) _ c.in-Err.no found.read found.legal
-    (λ well. subst (λ (a : Asks). Refuses p (asks.Cost a.alone a.local) launch c.in-Err.no) (sym found.asked) (c.in-Err.ensures.refused well))))
+    (launch_fails c.args.program.now p (λ last. asks.Cost (asks_of (local_fixed script) last.tree)) launch (λ q. LegalOf q script) _ c.in-Err.no found.read found.legal
+    (λ well. subst (λ (a : Asks). Refuses p (asks.Cost a) launch c.in-Err.no) (sym found.asked) (c.in-Err.ensures.refused well))))
 
 pub returns-in_ok-cost_at-in-Ok-clause-exact : goal.returns-in_ok-cost_at-in-Ok-clause-exact
 returns-in_ok-cost_at-in-Ok-clause-exact c = λ why cause.
     let found = c.in_ok-found.ensures.found in
     let g = given_by c.in-Ok.file in
     let p = program_of c.in_ok-found.found.program in
-    let started = subst (λ (a : Asks). IsLaunchFile p (asks.Cost a.alone a.local) c.args.launch.now g) (sym found.asked) c.in-Ok.ensures.ok in
+    let started = subst (λ (a : Asks). IsLaunchFile p (asks.Cost a) c.args.launch.now g) (sym found.asked) c.in-Ok.ensures.ok in
     (c.one_end.ensures (Cost c.args.items) (c.args.program.now ∷ c.args.script.now ∷ c.args.launch.now ∷ [])).none why (_, found.read.is, found.read.within, (tt, (g, (found.last, found.legal, started)))) cause

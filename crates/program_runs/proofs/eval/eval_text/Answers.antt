@@ -1,7 +1,6 @@
 use Rattle.std.proofs.Common.{[], ◌∷◌, inl, refl, subst, sym}
 use Rattle.lift_tree.specs.Annotations.{annotation_of}
 use Rattle.lift_tree.specs.Programs.{program_of}
-use Rattle.launch_file.specs.declared.file.Ask.TheVariants.{Eval}
 use Rattle.program_source.specs.Ends.{FailsFor, OnSource}
 use Rattle.program_source.specs.Program.{TypesOf}
 use Rattle.program_runs.proofs.Failed.{failed_for, handed_for, source_fails, told_for}
@@ -10,7 +9,7 @@ use Rattle.program_runs.specs.Started.{EvalOf, LaunchOf}
 use Rattle.program_runs.specs.declared.command.Command.TheVariants as commands
 use Rattle.fault_lines.specs.Failure.{launch_failed}
 use Rattle.fault_lines.specs.Shown.{failure_of}
-use Rattle.launch_file.specs.LaunchFile.{given_by}
+use Rattle.launch_file.specs.LaunchFile.{Eval, given_by}
 use Rattle.stages.proofs.HandedOn.{told_on}
 use Rattle.stages.specs.Stages.{As}
 use Rattle.program_runs.proofs.eval.eval_text.Goals as goal

@@ -8,5 +8,6 @@ returns c = costs_of_texts (record {
   laid = c.layout.ensures.whole;
   one_type = c.terms_have_one_type.ensures;
   printable = c.legal_terms_are_printable.ensures;
+  rows = c.rows_are_on_top.ensures.asked;
   runs = c.runs_have_traffic.ensures;
 })

@@ -2,7 +2,7 @@ use Rattle.std.proofs.Common.{◌≡◌, ◌∙◌, ◌++◌, ap, ap₂, map, �
 use Rattle.std.specs.Global.{Global}
 use Rattle.kernel_tree.specs.declared.events.Seen.{Seen}
 use Rattle.launch_file.specs.TraceLines.{trace_lines}
-use Rattle.compilation.specs.Meets.{asks_with}
+use Rattle.lift_tree.specs.FixedSizes.{asked}
 use Rattle.program_runs.specs.Runs.{AreLinesOfText}
 use Rattle.value_lists.specs.Lists.{value_in}
 use Rattle.std.proofs.Props.{props}
@@ -29,6 +29,6 @@ returns c =
       seen = c.in_ok-outcome.seen.items;
       run = c.in_ok-outcome.ensures.run;
       written = h ∙ ap₂ (λ (shown : List Seen) (line : List ℕ). trace_lines shown ++ line) c.deref-2.ensures.value (c.in_ok-line.ensures ∙ ∥∥₁_elim compiled.text_for (Prim.hlevel props) (λ t.
-          value_told p (ty_of compiled.output) (asks_with compiled.is_task compiled.local) compiled.text.items g c.values_have_their_types.ensures c.requires t
+          value_told p (ty_of compiled.output) (asked compiled.asks) compiled.text.items g c.values_have_their_types.ensures c.requires t
           c.lists_hold_one_value.ensures _ _ (Some counts) c.in_ok-outcome.ensures.left (ap (λ ls. value_in g.bases (ty_of compiled.output) (map (λ l. l.items) ls) 0 0) c.deref.ensures.value)));
     }) c.lines_of.ensures

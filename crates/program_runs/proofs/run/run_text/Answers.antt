@@ -3,9 +3,10 @@ use Rattle.lift_tree.specs.Launches.{Asks}
 use Rattle.lift_tree.specs.Programs.{program_of}
 use Rattle.lift_tree.specs.Types.{ty_of}
 use Rattle.launch_file.specs.Judged.{Refuses}
-use Rattle.launch_file.specs.declared.file.Ask.TheVariants as asks
+use Rattle.launch_file.specs.LaunchFile as asks
 use Rattle.launch_file.specs.LaunchFile.{given_by}
-use Rattle.lowered_tree.specs.Kinds.{is_task}
+use Rattle.lift_tree.specs.FixedSizes.{asked}
+use Rattle.lowered_tree.specs.Kinds.{asks_of}
 use Rattle.strategy_script.specs.LocalSize.{local_fixed}
 use Rattle.compilation.specs.Legal.{LegalOf}
 use Rattle.program_runs.proofs.Admitted.{given_is_admissible}
@@ -35,9 +36,8 @@ returns-in-Err-clause-refused c =
     let script = c.args.script.now in
     let launch = c.args.launch.now in
     subst (FailsFor (OnSource c.args.program.now (λ q. RunOf q script launch))) (sym c.for_launch.ensures)
-    (launch_fails c.args.program.now p (λ last. asks.Run (is_task last.tree) (local_fixed script)) launch (λ q. LegalOf q script) _ c.in-Err.no found.read found.legal
-    (λ well. subst (λ b. Refuses p (asks.Run b (local_fixed script)) launch c.in-Err.no) (sym (ap (λ (a : Asks). a.alone) found.asked))
-    (subst (λ o. Refuses p (asks.Run c.in_ok-compiled.compiled.is_task o) launch c.in-Err.no) (sym (ap (λ (a : Asks). a.local) found.asked)) (c.in-Err.ensures.refused well))))
+    (launch_fails c.args.program.now p (λ last. asks.Run (asks_of (local_fixed script) last.tree)) launch (λ q. LegalOf q script) _ c.in-Err.no found.read found.legal
+    (λ well. subst (λ (a : Asks). Refuses p (asks.Run a) launch c.in-Err.no) (sym found.asked) (c.in-Err.ensures.refused well)))
 
 pub returns-in_err-compiled-clause-refused : goal.returns-in_err-compiled-clause-refused
 returns-in_err-compiled-clause-refused c =
@@ -45,7 +45,7 @@ returns-in_err-compiled-clause-refused c =
     let script = c.args.script.now in
     let launch = c.args.launch.now in
     told_on failure_of (FailsFor (OnSource text (λ p. RunOf p script launch))) _ _ c.from_residual.ensures.1
-    (source_fails text (λ p. LegalOf p script) (λ p last. As (launch_failed p) (LaunchOf p (asks.Run (is_task last.tree) (local_fixed script)) launch)) _ c.in_err-compiled.ensures.refused)
+    (source_fails text (λ p. LegalOf p script) (λ p last. As (launch_failed p) (LaunchOf p (asks.Run (asks_of (local_fixed script) last.tree)) launch)) _ c.in_err-compiled.ensures.refused)
 
 pub returns-in_ok-run_launch-in-Ok-clause-found : goal.returns-in_ok-run_launch-in-Ok-clause-found
 returns-in_ok-run_launch-in-Ok-clause-found c =
@@ -53,8 +53,7 @@ returns-in_ok-run_launch-in-Ok-clause-found c =
     record {
       source = program_of compiled.program;
       output = ty_of compiled.output;
-      task = compiled.is_task;
-      local = compiled.local;
+      asks = asked compiled.asks;
       text = compiled.text.items;
       compiled = c.in_ok-compiled.ensures.found;
       given = given_by c.in-Ok.file;
@@ -68,7 +67,7 @@ returns-in_err-compiled-clause-exact c =
     let script = c.args.script.now in
     let launch = c.args.launch.now in
     told_for text (λ p. RunOf p script launch) (c.one_end.ensures (Run c.args.trace) (text ∷ script ∷ launch ∷ [])) _ _ c.from_residual.ensures.1
-    (source_fails text (λ p. LegalOf p script) (λ p last. As (launch_failed p) (LaunchOf p (asks.Run (is_task last.tree) (local_fixed script)) launch)) _ c.in_err-compiled.ensures.refused)
+    (source_fails text (λ p. LegalOf p script) (λ p last. As (launch_failed p) (LaunchOf p (asks.Run (asks_of (local_fixed script) last.tree)) launch)) _ c.in_err-compiled.ensures.refused)
 
 pub returns-in_err-run_launch-in-Ok-clause-exact : goal.returns-in_err-run_launch-in-Ok-clause-exact
 returns-in_err-run_launch-in-Ok-clause-exact c =
@@ -85,15 +84,13 @@ returns-in-Err-clause-exact c =
     let found = c.in_ok-compiled.ensures.found in
     failed_for c.args.program.now (λ q. RunOf q script launch) (c.one_end.ensures (Run c.args.trace) (c.args.program.now ∷ script ∷ launch ∷ [])) (failure_of c.for_launch.result)
     (subst (FailsFor (OnSource c.args.program.now (λ q. RunOf q script launch))) (sym c.for_launch.ensures)
-    (launch_fails c.args.program.now p (λ last. asks.Run (is_task last.tree) (local_fixed script)) launch (λ q. LegalOf q script) _ c.in-Err.no found.read found.legal
-    (λ well. subst (λ b. Refuses p (asks.Run b (local_fixed script)) launch c.in-Err.no) (sym (ap (λ (a : Asks). a.alone) found.asked))
-    (subst (λ o. Refuses p (asks.Run c.in_ok-compiled.compiled.is_task o) launch c.in-Err.no) (sym (ap (λ (a : Asks). a.local) found.asked)) (c.in-Err.ensures.refused well)))))
+    (launch_fails c.args.program.now p (λ last. asks.Run (asks_of (local_fixed script) last.tree)) launch (λ q. LegalOf q script) _ c.in-Err.no found.read found.legal
+    (λ well. subst (λ (a : Asks). Refuses p (asks.Run a) launch c.in-Err.no) (sym found.asked) (c.in-Err.ensures.refused well))))
 
 pub returns-in_ok-run_launch-in-Ok-clause-exact : goal.returns-in_ok-run_launch-in-Ok-clause-exact
 returns-in_ok-run_launch-in-Ok-clause-exact c = λ why cause.
     let found = c.in_ok-compiled.ensures.found in
     let given = given_by c.in-Ok.file in
     let p = program_of c.in_ok-compiled.compiled.program in
-    let started = subst (λ b. LaunchOf p (asks.Run b (local_fixed c.args.script.now)) c.args.launch.now (Ok given)) (sym (ap (λ (a : Asks). a.alone) found.asked))
-    (subst (λ o. LaunchOf p (asks.Run c.in_ok-compiled.compiled.is_task o) c.args.launch.now (Ok given)) (sym (ap (λ (a : Asks). a.local) found.asked)) c.in-Ok.ensures.ok) in
+    let started = subst (λ (a : Asks). LaunchOf p (asks.Run a) c.args.launch.now (Ok given)) (sym found.asked) c.in-Ok.ensures.ok in
     (c.one_end.ensures (Run c.args.trace) (c.args.program.now ∷ c.args.script.now ∷ c.args.launch.now ∷ [])).none why (_, found.read.is, found.read.within, (tt, (given, (found.last, found.legal, started)))) cause

@@ -9,6 +9,6 @@ use Rattle.program_runs.proofs.sequence.run_in_turn.Given as goal
 
 abbrev pub invariant-loop-number : goal.invariant-loop-number
 invariant-loop-number l =
-    SoFar (program_of l.compiled.program) (ty_of l.compiled.output) l.compiled.local (map outline_of l.compiled.outlines.items) l.compiled.text.items (record { shared = shared_of l.shared; counts = map count_of l.counts })
+    SoFar (program_of l.compiled.program) (ty_of l.compiled.output) (map outline_of l.compiled.outlines.items) l.compiled.text.items (record { shared = shared_of l.shared; counts = map count_of l.counts })
     (map kernel_of l.fn.kernels.items) (map (λ x. x.items) l.fn.inputs.items)
     (length l.yielded) (map (λ x. x.items) l.inputs.items) (map (λ x. x.items) l.ran.outputs.items) l.ran.events l.ran.releases

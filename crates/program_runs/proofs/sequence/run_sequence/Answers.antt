@@ -24,7 +24,7 @@ pub run_in_turn-requires-clause-admissible : goal.run_in_turn-requires-clause-ad
 run_in_turn-requires-clause-admissible c =
     let compiled = c.args.compiled.now in
     let s = shared_of c.args.file.now.shared in
-    subst (λ (cs : List held.Count). AreAdmissibleFor (program_of compiled.program) compiled.local (map outline_of compiled.outlines.items) (record { shared = s; counts = map count_of cs })) (sym c.deref-2.ensures.value) c.requires
+    subst (λ (cs : List held.Count). AreAdmissibleFor (program_of compiled.program) (map outline_of compiled.outlines.items) (record { shared = s; counts = map count_of cs })) (sym c.deref-2.ensures.value) c.requires
 
 pub run_in_turn-requires-clause-inputs : goal.run_in_turn-requires-clause-inputs
 run_in_turn-requires-clause-inputs c =
@@ -36,7 +36,7 @@ listed_text-requires-clause-small c =
     let compiled = c.args.compiled.now in
     let p = program_of compiled.program in
     let output = ty_of compiled.output in
-    output_small p output compiled.local (map outline_of compiled.outlines.items) compiled.text.items (given_in_order c.args.file.now) (map kernel_of c.in_ok-kernels.kernels.items) [] c.texts_are_of_one_sequence.ensures c.in_ok-kernels.ensures c.requires compiled.text_for
+    output_small p output (map outline_of compiled.outlines.items) compiled.text.items (given_in_order c.args.file.now) (map kernel_of c.in_ok-kernels.kernels.items) [] c.texts_are_of_one_sequence.ensures c.in_ok-kernels.ensures c.requires compiled.text_for
 
 pub listed_text-requires-clause-within : goal.listed_text-requires-clause-within
 listed_text-requires-clause-within c =
@@ -67,6 +67,6 @@ returns c =
       releases = c.in_ok-ran.ran.releases;
       run = subst (λ (ins : List (List ℕ)). AreRunInTurn g.shared ins (map kernel_of ks) (map outline_of compiled.outlines.items) g.counts c.in_ok-ran.ran.events c.in_ok-ran.ran.releases) inputs ran;
       written =
-          h ∙ value_told p output compiled.local (map outline_of compiled.outlines.items) compiled.text.items g (map kernel_of ks) [] c.texts_are_of_one_sequence.ensures c.in_ok-kernels.ensures c.requires compiled.text_for
+          h ∙ value_told p output (map outline_of compiled.outlines.items) compiled.text.items g (map kernel_of ks) [] c.texts_are_of_one_sequence.ensures c.in_ok-kernels.ensures c.requires compiled.text_for
           c.lists_hold_one_value.ensures c.values_have_their_types.ensures rows counts left;
     }) c.listed_text.ensures

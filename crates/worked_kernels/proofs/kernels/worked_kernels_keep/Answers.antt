@@ -1,5 +1,6 @@
 use Rattle.worked_kernels.proofs.KernelRuns.{sums_keep, swaps_keep}
 use Rattle.worked_kernels.proofs.Increments.{increments_keep}
+use Rattle.worked_kernels.proofs.RowIncrements.{row_increments_keep}
 use Rattle.worked_kernels.proofs.kernels.worked_kernels_keep.Goals as goal
 
 pub returns-clause-sums : goal.returns-clause-sums
@@ -10,3 +11,6 @@ returns-clause-swaps c = swaps_keep
 
 pub returns-clause-increments : goal.returns-clause-increments
 returns-clause-increments c = increments_keep
+
+pub returns-clause-rows : goal.returns-clause-rows
+returns-clause-rows c = row_increments_keep

@@ -1,4 +1,4 @@
-use Rattle.worked_kernels.proofs.LoweredTerms.{increments_are_lowered, sums_are_lowered}
+use Rattle.worked_kernels.proofs.LoweredTerms.{increments_are_lowered, row_increments_are_lowered, sums_are_lowered}
 use Rattle.worked_kernels.proofs.terms.worked_terms_are_lowered.Goals as goal
 
 pub returns-clause-increments : goal.returns-clause-increments
@@ -6,3 +6,6 @@ returns-clause-increments c = increments_are_lowered
 
 pub returns-clause-sums : goal.returns-clause-sums
 returns-clause-sums c = sums_are_lowered
+
+pub returns-clause-rows : goal.returns-clause-rows
+returns-clause-rows c = row_increments_are_lowered

@@ -3,6 +3,7 @@ use Rattle.std.specs.Prelude.{All}
 use Rattle.barrier_placement.specs.declared.touches.Touch.{Touch}
 use Rattle.lowering.specs.Terms.{term_of}
 use Rattle.group_form.specs.Theorem.{CanBePlaced}
+use Rattle.group_form.specs.Uses.{group_touches, phase_count}
 use Rattle.phase_plan.proofs.Found.{are_phases}
 use Rattle.phase_plan.proofs.phases.Phases.of.Goals as goal
 
@@ -19,4 +20,4 @@ place-requires-clause-within c =
     subst₂ (λ (xs : List Touch) (n : ℕ). All (λ x. x.phase < n) xs) (sym (c.deref.ensures.value ∙ c.in_ok-count.ensures.touches)) (sym c.in_ok-count.ensures.phases) placed.within
 
 pub returns : goal.returns
-returns c = are_phases (term_of c.args.root.now) c.args.once _ _ _ _ c.in_ok-count.ensures.phases c.in_ok-count.ensures.touches c.deref.ensures.value c.in_ok-barriers.ensures.needed c.in_ok-barriers.ensures.in_order c.in_ok-barriers.ensures.pairs
+returns c = are_phases (group_touches (term_of c.args.root.now)) (phase_count (term_of c.args.root.now)) c.args.once _ _ _ _ c.in_ok-count.ensures.phases c.in_ok-count.ensures.touches c.deref.ensures.value c.in_ok-barriers.ensures.needed c.in_ok-barriers.ensures.in_order c.in_ok-barriers.ensures.pairs

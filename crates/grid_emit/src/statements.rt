@@ -1,0 +1,371 @@
+//! The code of the items of a group together, in rows: local maps over rows, around maps along a
+//! row, and the copies to local memory that they fill.
+
+ghost use Rattle.std.specs.Prelude.{◌≡◌, IfOk, OnOk};
+ghost use Rattle.group_form.specs.ChosenForms.{form_of};
+ghost use Rattle.group_form.specs.GridPrinter as printer;
+ghost use Rattle.group_form.specs.Printer.{depth_in};
+ghost use Rattle.kernel_tree.specs.Code.{End, FromLocalId};
+ghost use Rattle.kernel_tree.specs.declared.tree.Dimension.TheVariants.{Y};
+ghost use Rattle.length_spelling.specs.Turns.{number_of, turn_formula};
+ghost use Rattle.lift_ir.specs.Terms as terms;
+ghost use Rattle.array_views.specs.Views.{view_in};
+ghost use Rattle.lowering.specs.Terms.{load_set_of, map_of, term_of};
+ghost use Rattle.item_emit.specs.Blocks.{code_in};
+ghost use Rattle.item_emit.specs.Copies.{HasShortCopies};
+ghost use Rattle.item_emit.specs.Scopes.{scope_of};
+ghost use Rattle.group_emit.specs.Settings.{fence_in, inputs_of, spell_of};
+ghost use Rattle.group_emit.specs.Used.{used_of};
+ghost use Rattle.grid_emit.specs.Settings.{grid_forms_in};
+
+use array_views::View;
+use group_emit::counts::Used;
+use group_emit::setting::Setting;
+use group_emit::statements::{Site, depth_in, put_local_map};
+use group_form::chosen::MapForm;
+use item_emit::accesses::{loaded, put_loaded};
+use item_emit::arguments::laid;
+use item_emit::block::Block;
+use item_emit::counts::{load_count, local_count, plus};
+use item_emit::scope::Scope;
+use item_emit::statements::at_turn;
+use kernel_tree::tree::{Dimension, Start, Stride};
+use length_spelling::{Turn, spell_length};
+use lowering::term::{Map, Space, Term};
+use std::alloc::{AllocError, Global};
+
+// A map along a row of a group itself. Its argument copies nothing.
+fn put_row_map(
+    alloc: Global,
+    setting: &Setting,
+    site: &Site,
+    map: &Map,
+    target: &View,
+    block: &mut Block,
+) -> Result<(), AllocError>
+    requires { HasShortCopies (map_of map.now) }
+    ensures { OnOk result (code_in block.new ≡ printer.print_along_row (spell_of setting.now)
+        (grid_forms_in setting.now) (inputs_of setting.now) (fence_in setting.now) site.now.depth
+        (scope_of site.now.scope.now) site.now.used.locals site.now.used.privates
+        site.now.used.variables (map_of map.now) (view_in target.now) (code_in block.old)) }
+{
+    let array = site.argument(alloc, setting, &map.array)?;
+    let after = Site {
+        used: site.used.after(&map.array)?,
+        ..*site
+    };
+    put_local_map(alloc, setting, &after, map, &array, target, block)
+}
+
+// The code of a map along a row of a group, through layouts.
+fn put_along_row(
+    alloc: Global,
+    setting: &Setting,
+    site: &Site,
+    term: &Term,
+    target: &View,
+    block: &mut Block,
+) -> Result<(), AllocError>
+    requires { HasShortCopies (term_of term.now) }
+    ensures { OnOk result (code_in block.new ≡ printer.print_along_row (spell_of setting.now)
+        (grid_forms_in setting.now) (inputs_of setting.now) (fence_in setting.now) site.now.depth
+        (scope_of site.now.scope.now) site.now.used.locals site.now.used.privates
+        site.now.used.variables (term_of term.now) (view_in target.now) (code_in block.old)) }
+{
+    match term {
+        Term::Reshape(layout, a) => {
+            let names = setting.declared.names;
+            let target = target.writing(alloc, names, &layout.form, &layout.ty, &layout.operand)?;
+            put_along_row(alloc, setting, site, a, &target, block)
+        }
+        Term::Map(map) => put_row_map(alloc, setting, site, map, target, block),
+        Term::Literal(_)
+        | Term::Bound(_)
+        | Term::Source(_)
+        | Term::Apply(_, _, _)
+        | Term::ApplyNumber(_, _, _)
+        | Term::Select(_, _, _)
+        | Term::Pair(_, _)
+        | Term::Zip(_, _)
+        | Term::First(_)
+        | Term::Second(_)
+        | Term::LetArray(_, _)
+        | Term::LetElement(_, _, _)
+        | Term::Fold(_)
+        | Term::Store(_, _)
+        | Term::Copy(_, _, _) => Ok(()),
+    }
+}
+
+// A row of a local map in this form.
+fn row_turn(form: MapForm, depth: u32) -> Turn
+    ensures { turn_formula (number_of result)
+        ≡ printer.turn_from (form_of form) (FromLocalId Y) depth }
+{
+    match form {
+        MapForm::Looped => Turn::Loop(depth),
+        MapForm::Guarded | MapForm::Alone => Turn::Local(Dimension::Y),
+    }
+}
+
+// A row of a local map over this array: what is loaded of it, and the map along it.
+fn put_row(
+    alloc: Global,
+    setting: &Setting,
+    site: &Site,
+    map: &Map,
+    array: &View,
+    target: &View,
+    block: &mut Block,
+) -> Result<(), AllocError>
+    requires { HasShortCopies (term_of map.now.body) }
+    ensures { OnOk result (let form = (grid_forms_in setting.now).rows.local map.now.length in
+        code_in block.new ≡ printer.print_row (spell_of setting.now)
+        (grid_forms_in setting.now) (inputs_of setting.now) (fence_in setting.now)
+        (printer.turn_from form (FromLocalId Y) site.now.depth) (depth_in form site.now.depth)
+        (scope_of site.now.scope.now) (used_of site.now.used) (load_set_of map.now.loads)
+        (view_in array.now) (term_of map.now.body) (view_in target.now) (code_in block.old)) }
+{
+    let form = setting.local_form(Dimension::Y, &map.length);
+    let turn = row_turn(form, site.depth);
+    let element = at_turn(alloc, array, turn)?;
+    let first_load = site.used.variables;
+    let bound = loaded(alloc, &map.loads, &element, first_load)?;
+    let inner = Site {
+        depth: depth_in(form, site.depth)?,
+        scope: &Scope::Bound(&bound, site.scope),
+        used: Used {
+            variables: plus(first_load, load_count(&map.loads)?)?,
+            ..site.used
+        },
+    };
+    let target = at_turn(alloc, target, turn)?;
+    put_along_row(alloc, setting, &inner, &map.body, &target, block)?;
+    put_loaded(alloc, &map.loads, &element, first_load, block)
+}
+
+// A row of a local map over this array, with nothing behind it.
+fn row_block(
+    alloc: Global,
+    setting: &Setting,
+    site: &Site,
+    map: &Map,
+    array: &View,
+    target: &View,
+) -> Result<Block, AllocError>
+    requires { HasShortCopies (term_of map.now.body) }
+    ensures { IfOk result (λ b. let form = (grid_forms_in setting.now).rows.local map.now.length in
+        code_in b ≡ printer.print_row (spell_of setting.now)
+        (grid_forms_in setting.now) (inputs_of setting.now) (fence_in setting.now)
+        (printer.turn_from form (FromLocalId Y) site.now.depth) (depth_in form site.now.depth)
+        (scope_of site.now.scope.now) (used_of site.now.used) (load_set_of map.now.loads)
+        (view_in array.now) (term_of map.now.body) (view_in target.now) End) }
+{
+    let mut row = Block::new(alloc);
+    put_row(alloc, setting, site, map, array, target, &mut row)?;
+    Ok(row)
+}
+
+// The statement of a local map over rows over this array, or its row alone, as its length's form
+// is.
+fn put_local_nest(
+    alloc: Global,
+    setting: &Setting,
+    site: &Site,
+    map: &Map,
+    array: &View,
+    target: &View,
+    block: &mut Block,
+) -> Result<(), AllocError>
+    requires { HasShortCopies (term_of map.now.body) }
+    ensures { OnOk result (code_in block.new ≡ printer.print_local_nest (spell_of setting.now)
+        (grid_forms_in setting.now) (inputs_of setting.now) (fence_in setting.now) site.now.depth
+        (scope_of site.now.scope.now) (used_of site.now.used) map.now.length
+        (load_set_of map.now.loads) (view_in array.now) (term_of map.now.body)
+        (view_in target.now) (code_in block.old)) }
+{
+    match setting.local_form(Dimension::Y, &map.length) {
+        MapForm::Alone => put_row(alloc, setting, site, map, array, target, block),
+        MapForm::Guarded => {
+            let row = row_block(alloc, setting, site, map, array, target)?;
+            let length = spell_length(alloc, &map.length, setting.declared.names)?;
+            block.put_guard(Start::LocalId(Dimension::Y), length, row)
+        }
+        MapForm::Looped => {
+            let row = row_block(alloc, setting, site, map, array, target)?;
+            let length = spell_length(alloc, &map.length, setting.declared.names)?;
+            let stride = Stride::LocalSize(Dimension::Y);
+            block.put_loop(Start::LocalId(Dimension::Y), length, stride, row)
+        }
+    }
+}
+
+// The code of a local map over rows, with the barrier before it.
+#[cycle(statements)]
+fn put_map(
+    alloc: Global,
+    setting: &Setting,
+    site: &Site,
+    map: &Map,
+    target: &View,
+    block: &mut Block,
+) -> Result<(), AllocError>
+    requires { HasShortCopies (map_of map.now) }
+    ensures { OnOk result (code_in block.new ≡ printer.print_grid_written (spell_of setting.now)
+        (grid_forms_in setting.now) (inputs_of setting.now) (fence_in setting.now) site.now.depth
+        (scope_of site.now.scope.now)
+        (used_of site.now.used) (map_of map.now) (view_in target.now) (code_in block.old)) }
+{
+    let view = site.argument(alloc, setting, &map.array)?;
+    let after = Site {
+        used: site.used.after(&map.array)?,
+        ..*site
+    };
+    put_local_nest(alloc, setting, &after, map, &view, target, block)?;
+    setting.put_barrier(after.used.phases, block)?;
+    put_argument(alloc, setting, site, &map.array, block)
+}
+
+// The code of a let of an array whose body is written.
+#[cycle(statements)]
+fn put_let(
+    alloc: Global,
+    setting: &Setting,
+    site: &Site,
+    value: &Term,
+    body: &Term,
+    target: &View,
+    block: &mut Block,
+) -> Result<(), AllocError>
+    requires value { HasShortCopies (term_of value.now) }
+    requires body { HasShortCopies (term_of body.now) }
+    ensures { OnOk result (code_in block.new ≡ printer.print_grid_written (spell_of setting.now)
+        (grid_forms_in setting.now) (inputs_of setting.now) (fence_in setting.now) site.now.depth
+        (scope_of site.now.scope.now)
+        (used_of site.now.used) (terms.LetArray (term_of value.now) (term_of body.now))
+        (view_in target.now) (code_in block.old)) }
+{
+    let bound = site.argument(alloc, setting, value)?;
+    let inner = Site {
+        depth: site.depth,
+        scope: &Scope::Bound(&bound, site.scope),
+        used: site.used.after(value)?,
+    };
+    put_written(alloc, setting, &inner, body, target, block)?;
+    put_argument(alloc, setting, site, value, block)
+}
+
+// The code of a let of an array whose body is an argument.
+#[cycle(statements)]
+fn put_argument_let(
+    alloc: Global,
+    setting: &Setting,
+    site: &Site,
+    value: &Term,
+    body: &Term,
+    block: &mut Block,
+) -> Result<(), AllocError>
+    requires value { HasShortCopies (term_of value.now) }
+    requires body { HasShortCopies (term_of body.now) }
+    ensures { OnOk result (code_in block.new ≡ printer.print_grid_argument (spell_of setting.now)
+        (grid_forms_in setting.now) (inputs_of setting.now) (fence_in setting.now) site.now.depth
+        (scope_of site.now.scope.now)
+        (used_of site.now.used) (terms.LetArray (term_of value.now) (term_of body.now))
+        (code_in block.old)) }
+{
+    let bound = site.argument(alloc, setting, value)?;
+    let inner = Site {
+        depth: site.depth,
+        scope: &Scope::Bound(&bound, site.scope),
+        used: site.used.after(value)?,
+    };
+    put_argument(alloc, setting, &inner, body, block)?;
+    put_argument(alloc, setting, site, value, block)
+}
+
+// The copies of an argument to local memory.
+#[cycle(statements)]
+fn put_argument(
+    alloc: Global,
+    setting: &Setting,
+    site: &Site,
+    term: &Term,
+    block: &mut Block,
+) -> Result<(), AllocError>
+    requires { HasShortCopies (term_of term.now) }
+    ensures { OnOk result (code_in block.new ≡ printer.print_grid_argument (spell_of setting.now)
+        (grid_forms_in setting.now) (inputs_of setting.now) (fence_in setting.now) site.now.depth
+        (scope_of site.now.scope.now)
+        (used_of site.now.used) (term_of term.now) (code_in block.old)) }
+{
+    match term {
+        Term::Pair(a, b) | Term::Zip(a, b) => {
+            let next = Site {
+                used: site.used.after(a)?,
+                ..*site
+            };
+            put_argument(alloc, setting, &next, b, block)?;
+            put_argument(alloc, setting, site, a, block)
+        }
+        Term::First(a) | Term::Second(a) | Term::Reshape(_, a) => {
+            put_argument(alloc, setting, site, a, block)
+        }
+        Term::LetArray(value, body) => put_argument_let(alloc, setting, site, value, body, block),
+        Term::Copy(_, ty, a) => {
+            let first = plus(site.used.locals, local_count(a)?)?;
+            let target = laid(alloc, Space::Local, first, ty)?;
+            put_written(alloc, setting, site, a, &target, block)
+        }
+        Term::Literal(_)
+        | Term::Bound(_)
+        | Term::Source(_)
+        | Term::Apply(_, _, _)
+        | Term::ApplyNumber(_, _, _)
+        | Term::Select(_, _, _)
+        | Term::LetElement(_, _, _)
+        | Term::Map(_)
+        | Term::Fold(_)
+        | Term::Store(_, _) => Ok(()),
+    }
+}
+
+/// A term in writing position, which goes to the target.
+#[cycle(statements)]
+pub fn put_written(
+    alloc: Global,
+    setting: &Setting,
+    site: &Site,
+    term: &Term,
+    target: &View,
+    block: &mut Block,
+) -> Result<(), AllocError>
+    requires { HasShortCopies (term_of term.now) }
+    ensures { OnOk result (code_in block.new ≡ printer.print_grid_written (spell_of setting.now)
+        (grid_forms_in setting.now) (inputs_of setting.now) (fence_in setting.now) site.now.depth
+        (scope_of site.now.scope.now)
+        (used_of site.now.used) (term_of term.now) (view_in target.now) (code_in block.old)) }
+{
+    match term {
+        Term::Reshape(layout, a) => {
+            let names = setting.declared.names;
+            let target = target.writing(alloc, names, &layout.form, &layout.ty, &layout.operand)?;
+            put_written(alloc, setting, site, a, &target, block)
+        }
+        Term::LetArray(value, body) => put_let(alloc, setting, site, value, body, target, block),
+        Term::Map(map) => put_map(alloc, setting, site, map, target, block),
+        Term::Literal(_)
+        | Term::Bound(_)
+        | Term::Source(_)
+        | Term::Apply(_, _, _)
+        | Term::ApplyNumber(_, _, _)
+        | Term::Select(_, _, _)
+        | Term::Pair(_, _)
+        | Term::Zip(_, _)
+        | Term::First(_)
+        | Term::Second(_)
+        | Term::LetElement(_, _, _)
+        | Term::Fold(_)
+        | Term::Store(_, _)
+        | Term::Copy(_, _, _) => Ok(()),
+    }
+}

@@ -1,5 +1,0 @@
-use Rattle.nest_premises.proofs.InGroups.{lets_around_groups_bind_no_element}
-use Rattle.nest_premises.proofs.laws.lets_around_groups_bind_no_element.Goals as goal
-
-pub returns : goal.returns
-returns c = lets_around_groups_bind_no_element
