@@ -20,15 +20,15 @@ TOP = Path(__file__).resolve().parent.parent
 CODE = (".rt", ".antt")
 # a change, the one that is looked for, and the names that it has in files
 CHANGES = [
-    ("a rewrite rule", "stride-layout", r"\bStrideLayout\b|stride-layout|\bstride_layout\b"),
+    ("a rewrite rule", "vector-scalar", r"\bVectorScalar\b|vector-scalar|\bvectors_again\b"),
     ("a statement of kernels", "vload4", r"\bLoadFour\b|\bLoadsFour\b|vload4"),
     ("an id form", "get_num_groups", r"\bGroupCount\b|get_num_groups"),
     ("an operator", "xor", r"\bXor\b|\"xor\""),
-    ("a layout", "reverse", r"\bReverse\b|\"reverse\""),
+    ("a layout", "asScalar", r"\bAsScalar\b|asScalar"),
     ("a layout that is only read", "slide", r"\bSlide\b|\"slide\""),
     ("a kind of map", "mapSeq", r"\bSequential\b|mapSeq"),
-    ("an element type", "pairs", r"\bPairOf\b|\bTy::Pair\b"),
-    ("a rule of the nest", "N11", r"\bN11\b"),
+    ("an element type", "u32x4", r"\bU32x4\b|\bTy::Vector\b|u32x4"),
+    ("a rule of the nest", "N15", r"\bN15\b"),
     ("a refusal of launch files", "no task", r"\bNotTask\b"),
     ("a command", "run-stages", r"\bRunStages\b|\brun_stages(_text)?\b|run-stages"),
 ]

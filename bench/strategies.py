@@ -211,8 +211,24 @@ def others():
                   changed=changed)
 
 
+def vectors():
+    xs = numbers(2**20, below=256)
+    value = [np.minimum((xs * 300) >> 8, 255)]
+    for name, script in (("one by one", "items"), ("in fours", "fours")):
+        yield Row(f"grey values, {name}", f"brightened/{script}", [xs.size], [xs], value, xs.size,
+                  [MANY])
+    rows = xs[: 2**18].reshape(-1, 64)
+    value = [np.minimum((rows * 300) >> 8, 255)]
+    one_by_one = {"at 1 vector\nat 1.0 to-": "at 1 to-"}
+    for name, changed in (("one by one", one_by_one), ("in fours", {})):
+        for what, script, launch in (("item", "rows", FEW), ("group of 16", "groups", (4096, 16))):
+            yield Row(f"rows of grey values, {name}, a row for each {what}",
+                      f"brightened_rows/{script}", [len(rows)], [rows], value, rows.size, [launch],
+                      changed=changed)
+
+
 def rows():
-    for some in (convolutions, products, sums, matrices, others):
+    for some in (convolutions, products, sums, matrices, others, vectors):
         yield from some()
 
 

@@ -20,7 +20,8 @@ def costs(trace, items):
             case ["release", _]:
                 releases += 1
             case ["step", item, done, buffer, _]:
-                each[int(item)][f"{MEMORY[buffer[0]]} {DONE[done]}"] += 1
+                width = 4 if done.endswith("4") else 1
+                each[int(item)][f"{MEMORY[buffer[0]]} {DONE[done.rstrip('4')]}"] += width
     lines = [f"item {number}: {told(counts)}\n" for number, counts in enumerate(each)]
     total = sum(each, Counter())
     return "".join(lines) + f"cost: {told(total)}, releases {releases}\n"

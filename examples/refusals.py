@@ -49,6 +49,8 @@ def tree(levels):
 STAGED = "input xs: [u32; 4]; output map(\\x. add(x, 1), map(\\x. mul(x, 2), xs))"
 CUTS = "at 0 to-glb\nat 0 then\nat . to-glb"
 TWO = [{"global": 2, "local": 1}, {"global": 2, "local": 1}]
+# two maps, of which each may be worked out in fours
+TWICE = "input xs: [u32; 8]; output map(\\x. add(x, 1), map(\\x. mul(x, 2), xs))"
 UNDER = "input xs: [u32; 2]; output let y = map(\\x. x, xs) in map(\\z. fold(\\a b. add(a, b), z, y), xs)"
 
 # an array that two later kernels read, and the cuts of both, of which one stands in a let's body
@@ -121,6 +123,8 @@ ROWS = [
     ("input xs: [u32; 4]; output map(\\r. map(\\x. reduce(add, x, r), r), split(2, xs))", "at . map-split", None, 9, "lift: step 1: side mentions"),
     ("input xs: [[u32; 4]; 2]; output map(\\p. first(p), zip(xs, xs))", "at 0 then", None, 9, "lift: step 1: side whole"),
     ("input xs: [[u32; 4]; 2]; output map(\\r. map(\\x. x, r), xs)", "at 1 then", None, 9, "lift: step 1: side closed"),
+    ("input xs: [u32; 8]; output map(\\x. lt(x, 1), xs)", "at . vector", None, 9, "lift: step 1: side lanes"),
+    ("input xs: [u32; 10]; output map(\\x. add(x, 1), xs)", "at . vector", None, 9, "lift: step 1: side divides"),
     (ADDED, "at 0 copy\n" * 255, None, 10, "lift: limit depth: 257"),
     (ADDED, "", None, 11, "lift: nest: N1 at ."),
     (ADDED, "at . to-lcl", None, 11, "lift: nest: N2 at ."),
@@ -137,6 +141,8 @@ ROWS = [
     (ADDED, "launch local 2 2\nat . to-glb", None, 11, "lift: nest: N12 at ."),
     (ADDED, "at . to-glb1", None, 11, "lift: nest: N14 at ."),
     (CUBE, "at 1.1 to-lcl\nat 1 to-wrg\nat . to-wrg1", None, 11, "lift: nest: N14 at 1.1"),
+    ("input xs: [[u32; 4]; 4]; output map(\\r. map(\\x. x, r), transpose(xs))", "at 1 vector\nat 1.0 to-seq\nat . to-seq", None, 11, "lift: nest: N15 at 1.0.0"),
+    (TWICE, "at 0 vector\nat 0.0 to-seq\nat . to-seq", None, 11, "lift: nest: N15 at 0"),
     (ADDED, CUT + "at . to-glb", None, 11, "lift: nest: N13 at 0"),
     (ADDED, CUT, launch(**{"global": 2}), 11, "lift: nest: N13 at 0"),
     (ARRAY + f"map(\\x. x, {'join(split(1, ' * 13}xs{'))' * 13})", "at . to-seq", None, 10, "lift: limit layouts: 26"),
@@ -227,6 +233,9 @@ MENDED = [
     ("side closed", READ_TWICE, FIRST_CUTS),
     ("N14", NESTED, PAIR),
     ("N14", CUBE, "at 1.1 to-seq\nat 1 to-glb\nat . to-glb1"),
+    ("N15", TWICE, "at 0 vector\nat . vector\nat 0.0 vector-scalar\nat 0 fuse-map\nat 0 to-seq"),
+    ("side divides", "size F from 1 to 9; input xs: [u32; 4*F]; output map(\\x. add(x, 1), xs)", "at . vector"),
+    ("side lanes", "input xs: [u32; 8]; output map(\\x. min(x, 1), xs)", "at . vector"),
     ("components", FOUR + "map(\\x. map(\\y. add(first(x), y), ys), xs)", None),
     ("kernels", stages(16), cuts(16)),
     ("layouts", LAYERS, "at 0 join-split\nat . to-seq"),

@@ -42,6 +42,11 @@ def convolution(xs, weights):
     ]
 
 
+def brightened(row):
+    """Grey values times 300/256, at most 255."""
+    return [min(word(x * 300) >> 8, 255) for x in row]
+
+
 def stencil(xs):
     return convolution(xs, [1, 1, 1])
 
@@ -131,6 +136,8 @@ VALUES = {
     "biased": lambda a, x, bias: [word(dot(row, x) + it) for row, it in zip(a, bias)],
     "blocked_sums": lambda xs: [squares(block) for block in parts(xs, len(xs) // 8)],
     "blur": rows_then_columns,
+    "brightened": lambda xs: brightened(xs),
+    "brightened_rows": lambda rows: [brightened(row) for row in rows],
     "convolution": convolution,
     "convolution_inside": inner,
     "dot_product": lambda xs, ys: [dot(xs, ys)],
@@ -157,6 +164,7 @@ VALUES = {
     "read_twice_pairs": most_above,
     "rounded_up": stencil,
     "row_sums": lambda rows: [total(row) for row in rows],
+    "smoothed_fours": lambda xs: stencil([x * x for x in xs]),
     "smoothed_squares": lambda xs: stencil([x * x for x in xs]),
     "squares_smoothed": lambda rows: [stencil([x * x for x in row]) for row in rows],
     "stencil": stencil,

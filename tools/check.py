@@ -101,7 +101,8 @@ def told(event: device.Event) -> str:
     """The line of a trace that tells an event."""
     if event.kind == "release":
         return f"release {event.who}"
-    access = f" {event.kind.split()[1]}s {event.array} {event.cell}" if event.array else ""
+    verb = event.kind.split()[1] + ("s4" if event.width == 4 else "s")
+    access = f" {verb} {event.array} {event.cell}" if event.array else ""
     return f"step {event.who}{access}"
 
 

@@ -16,6 +16,8 @@ from kernels import Items, kernels_of, launches_of, names_of, statements
 TOKEN = re.compile(r"\(uint\)get_(\w+\(\d)\)|(\d+)u|(\w+)|(<<|>>|==|\S)")
 WORDS = 2**32
 BARRIER, END = object(), object()
+# what is told of a step without an access
+OTHER = "other step", "", 0, 1
 
 
 class Event(NamedTuple):
@@ -47,8 +49,12 @@ def expression(tokens):
         )
         return f"{name}({first}, {second})"
     if mark != "(":
-        return id_form.replace("(", "_") or number or name
-    first, operator, second = expression(tokens), next(tokens)[3], expression(tokens)
+        lane = "[lane]" if name[:1] == "w" else ""
+        return id_form.replace("(", "_") or number or name + lane
+    first, operator = expression(tokens), next(tokens)[3]
+    if operator == ")":
+        return first
+    second = expression(tokens)
     if next(tokens)[3] == "?":
         chosen, _, other, _ = expression(tokens), next(tokens), expression(tokens), next(tokens)
         return f"({chosen} if {first} {operator} {second} else {other})"
@@ -57,7 +63,9 @@ def expression(tokens):
 
 @cache
 def in_python(text):
-    tokens = (it.groups(default="") for it in TOKEN.finditer(text))
+    """An expression, or the lane of one of four words: what is spread is in each lane."""
+    spread = text.replace("(uint4)", "")
+    tokens = (it.groups(default="") for it in TOKEN.finditer(spread))
     return compile(expression(tokens), text, "eval")
 
 
@@ -65,11 +73,34 @@ def value(text, names):
     return eval(in_python(text), {"min": min, "max": max}, names)
 
 
+def lanes(text, names):
+    """The four words of an expression of four."""
+    return [value(text, {**names, "lane": lane}) for lane in range(4)]
+
+
+def arguments(call):
+    """The arguments of a call."""
+    made, depth = [""], 0
+    for mark in call[call.index("(") + 1 : -1]:
+        depth += (mark == "(") - (mark == ")")
+        made = [*made, ""] if mark == "," and not depth else [*made[:-1], made[-1] + mark]
+    return [it.strip() for it in made]
+
+
 @cache
 def parts(statement):
     """What a statement does: its kind, the variable that it sets, an array and an index in it, and
-    the expression that is stored or assigned."""
-    target, source = statement.rstrip(";").split(" = ", 1)
+    the expression that is stored or assigned. Of four words the kind ends with a 4."""
+    statement = statement.rstrip(";")
+    if statement.startswith("vstore4"):
+        source, offset, array = arguments(statement)
+        return "write4", "", array, offset, source
+    target, source = statement.split(" = ", 1)
+    if source.startswith("vload4"):
+        offset, array = arguments(source)
+        return "read4", target, array, offset, ""
+    if target.startswith("w"):
+        return "set4", target, "", "", source
     read = re.fullmatch(r"([alop]\d+)\[(.*)\]", source)
     write = re.fullmatch(r"([olp]\d+)\[(.*)\]", target)
     if write:
@@ -86,14 +117,29 @@ class Item:
         self.number, self.names = number, names_of(number, launch)
         self.arrays = {"a": shared, "o": shared, "l": local, "p": defaultdict(dict)}
 
-    def access(self, kind, array, cell):
+    def access(self, kind, array, cell, width=1):
         if array.startswith("p"):
-            return "other step", "", 0
-        return f"{'local' if array.startswith('l') else 'global'} {kind}", array, cell
+            return OTHER
+        return f"{'local' if array.startswith('l') else 'global'} {kind}", array, cell, width
+
+    def assign_four(self, kind, target, array, offset, source):
+        """The same of four words."""
+        if kind == "set4":
+            self.names[target] = lanes(source, self.names)
+            return OTHER
+        cell, cells = 4 * value(offset, self.names), self.arrays[array[0]][array]
+        if kind == "write4":
+            cells |= zip(range(cell, cell + 4), lanes(source, self.names))
+        else:
+            self.names[target] = [cells[it] for it in range(cell, cell + 4)]
+        return self.access(kind.rstrip("4"), array, cell, 4)
 
     def assign(self, statement):
-        """Does an assignment, a load or a store, and tells of it: its kind, array and cell."""
+        """Does an assignment, a load or a store, and tells of it: its kind, its array, its first
+        cell and how many there are."""
         kind, target, array, index, source = parts(statement)
+        if kind.endswith("4"):
+            return self.assign_four(kind, target, array, index, source)
         if kind == "write":
             cell = value(index, self.names)
             self.arrays[array[0]][array][cell] = value(source, self.names)
@@ -103,10 +149,10 @@ class Item:
             self.names[target] = self.arrays[array[0]][array][cell]
             return self.access(kind, array, cell)
         self.names[target] = value(source, self.names)
-        return "other step", "", 0
+        return OTHER
 
     def step(self):
-        return "other step", "", 0
+        return OTHER
 
     def actions(self, body):
         """What the item does in turn: an action for each event, and the barriers."""
@@ -212,9 +258,9 @@ class Run:
             group = self.items.group_of(item)
             self.release(group)
             return Event(number, "release", group, "", 0)
-        kind, array, cell = action()
+        kind, array, cell, width = action()
         self.go_on(item)
-        return Event(number, kind, item, array, cell)
+        return Event(number, kind, item, array, cell, width)
 
 
 def events(kernel, launch, shared):

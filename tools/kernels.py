@@ -6,7 +6,7 @@ import re
 
 LOOP = re.compile(r"for \(uint (i\d+) = (.*); i\d+ < (.*); i\d+ \+= (.*)\) \{")
 TEST = re.compile(r"if \((.*) < (.*)\) \{")
-DECLARATION = re.compile(r"(__local )?uint \w+(\[\d+\])?;")
+DECLARATION = re.compile(r"(__local )?uint4? \w+(\[\d+\])?;")
 
 
 def kernels_of(text):

@@ -23,7 +23,11 @@ ID = re.compile(r"\(uint\)get_(global|group|local)_id\((\d)\)")
 
 
 def accesses(statement):
-    """What a statement reads or writes in an array: `v0 = a0[..]`, `o0[..] = v0`."""
+    """What a statement reads or writes in an array: `v0 = a0[..]`, `o0[..] = v0`, and in fours
+    `w0 = vload4(.., a0)`, `vstore4(.., o0)`."""
+    fours = re.search(r"^(w\d+ = vload4|vstore4)\(.*, (\w+)\);", statement)
+    if fours:
+        return [f"{'writes' if fours[1] == 'vstore4' else 'reads'} {fours[2]} in fours"]
     reads = [f"reads {it}" for it in re.findall(r" = ([alp]\d+)\[", statement)]
     return reads + [f"writes {it}" for it in re.findall(r"^([olp]\d+)\[", statement)]
 

@@ -17,7 +17,7 @@ import sys
 TOKEN = re.compile(r"\s*(\w+|.)")
 MAPS = ("map", "mapGlb", "mapWrg", "mapLcl", "mapGlb1", "mapWrg1", "mapLcl1", "mapSeq")
 FOLDS = ("fold", "foldSeq")
-NUMBERS = {"slide": 2, "pad": 2}
+NUMBERS = {"slide": 2, "pad": 2, "asVector": 1}
 NUMBER_BEHIND = ("div", "rem")
 
 

@@ -103,10 +103,10 @@ class Array(NamedTuple):
         return f"[{self.element}; {self.length}]"
 
 
-# a number's type is this word
-NUMBER = "u32"
+# the types of a number and of a vector are these words
+NUMBER, VECTOR = "u32", "u32x4"
 Type = str | Pair | Array | None
-ONE = monomial("1")
+ONE, FOUR = monomial("1"), monomial("4")
 
 
 def declared(text: str) -> Type:
@@ -180,7 +180,7 @@ def type_of(node: Node, of: list, names: dict[str, Type]) -> Type:
     if form in FOLDS:
         return Array(of[1], ONE)
     if form in OPERATORS or form in ("div", "rem", "select"):
-        return NUMBER
+        return VECTOR if VECTOR in of else NUMBER
     return OTHERS[form](of)
 
 
@@ -198,6 +198,8 @@ LAYOUTS = {
     "transpose": lambda xs, by: Array(Array(xs.element.element, xs.length), xs.element.length),
     "slide": slid,
     "pad": lambda xs, by: Array(xs.element, xs.length.plus(by[0]).plus(by[1])),
+    "asVector": lambda xs, by: Array(VECTOR, xs.length.over(by[0])),
+    "asScalar": lambda xs, by: Array(NUMBER, xs.length.times(FOUR)),
 }
 OTHERS = {
     "let": lambda of: of[1],
@@ -221,7 +223,9 @@ def components(it: Type) -> int:
 
 def lengths(it: Type, sizes: dict[str, int]) -> list[int]:
     """The lengths of an array's dimensions at given sizes, the outermost first; those of a pair's
-    first part."""
+    first part. A vector has four."""
     if isinstance(it, Array):
         return [it.length.at(sizes), *lengths(it.element, sizes)]
+    if it == VECTOR:
+        return [4]
     return lengths(it.first, sizes) if isinstance(it, Pair) else []

@@ -316,7 +316,8 @@ static const char *plain_form(const char *name, size_t length) {
   static const char *const pairs[][2] = {
       {"mapGlb", "map"},  {"mapWrg", "map"},  {"mapLcl", "map"},   {"mapGlb1", "map"},
       {"mapWrg1", "map"}, {"mapLcl1", "map"}, {"mapSeq", "map"},   {"foldSeq", "fold"},
-      {"toLocal", ""},    {"toPrivate", ""},  {"then", ""}};
+      {"toLocal", ""},    {"toPrivate", ""},  {"then", ""},        {"asVector", ""},
+      {"asScalar", ""}};
   for (size_t k = 0; k < sizeof pairs / sizeof *pairs; k++)
     if (is_form(name, length, pairs[k][0])) return pairs[k][1];
   return NULL;
@@ -331,16 +332,17 @@ static char free_letter(const Declarations *declared) {
   return letter;
 }
 
-/* Writes a term of a script as a program has it: plain forms for lowered ones, and no copies. */
+/* Writes a term of a script as a program has it: plain forms for lowered ones, no copies, and numbers
+ * one by one where there are vectors. */
 static void write_plain(FILE *file, const char *term, size_t length, char letter) {
-  char *copy = memory(length + 1, 1); /* of each parenthesis around: whether it is a copy's */
+  char *copy = memory(length + 1, 1); /* of each parenthesis around: whether it is left out */
   size_t depth = 0;
   for (const char *end = term + length; term < end;) {
     size_t name = name_length(term);
     const char *plain = name && term[name] == '(' ? plain_form(term, name) : NULL;
     if (plain && !*plain) {
       copy[depth++] = 1;
-      term += name + 1;
+      term += name + 1 + (is_form(term, name, "asVector") ? strlen("4, ") : 0);
     } else if (name) {
       if (*term == '_') fputc(letter, file);
       if (plain)

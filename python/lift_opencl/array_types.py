@@ -16,6 +16,14 @@ class Word:
 
 
 @dataclass(frozen=True)
+class Vector:
+    """`u32x4`, four numbers of 32 bits, which lie one behind another."""
+
+    def __str__(self) -> str:
+        return "u32x4"
+
+
+@dataclass(frozen=True)
 class Pair:
     """`(A, B)`."""
 
@@ -37,7 +45,8 @@ class Array:
         return f"[{self.element}; {self.length}]"
 
 
-Type = Union[Word, Pair, Array]
+Type = Union[Word, Vector, Pair, Array]
+FOUR = Length.number(4)
 
 
 def array(type: Type) -> Array:
@@ -56,12 +65,14 @@ def given(type: Type, sizes: Mapping[str, int]) -> Type:
 
 
 def lengths(type: Type) -> list[Length]:
-    """The lengths of the arrays around the element, the outermost first."""
-    return [type.length, *lengths(type.element)] if isinstance(type, Array) else []
+    """The lengths of the arrays around a number, the outermost first; a vector has four."""
+    if isinstance(type, Array):
+        return [type.length, *lengths(type.element)]
+    return [FOUR] if isinstance(type, Vector) else []
 
 
 def element(type: Type) -> Type:
-    """What stands in the arrays: `u32`, or pairs of it."""
+    """What stands in the arrays: `u32`, pairs of it, or vectors."""
     return element(type.element) if isinstance(type, Array) else type
 
 

@@ -12,7 +12,7 @@ TOKEN = re.compile(r"\s*(\w+|.)")
 MAPS = ("map", "mapGlb", "mapWrg", "mapLcl", "mapGlb1", "mapWrg1", "mapLcl1", "mapSeq")
 FOLDS = ("fold", "foldSeq")
 # how many numbers stand before the term
-NUMBERS = {"split": 1, "stride": 1, "slide": 2, "pad": 2}
+NUMBERS = {"split": 1, "stride": 1, "slide": 2, "pad": 2, "asVector": 1}
 Taken = TypeVar("Taken")
 
 

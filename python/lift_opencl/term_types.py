@@ -6,12 +6,12 @@ from __future__ import annotations
 
 from typing import Callable, Mapping
 
-from .array_types import Array, Pair, Type, Word, array
+from .array_types import FOUR, Array, Pair, Type, Vector, Word, array
 from .lengths import Length
 from .program import FOLDS, MAPS, Term
 
 ONE = Length.number(1)
-# whose value is a word, and whose type is their operand's
+# whose value is a word, or a vector where an operand is, and whose type is their operand's
 WORDS = "add sub mul div rem min max and or xor shl shr lt eq select".split()
 SAME = ("reverse", "stride", "toLocal", "toPrivate", "then")
 Names = Mapping[str, Type]
@@ -30,7 +30,7 @@ def type_of(term: Term, names: Names) -> Type:
         return of_binder(term, names)
     children = [with_types(child, names) for child in term.children]
     if term.form in WORDS:
-        return Word()
+        return next((it for it in children if isinstance(it, Vector)), Word())
     if term.form in SAME:
         return children[0]
     if term.form not in RULES:
@@ -85,4 +85,6 @@ RULES: dict[str, Callable[..., Type]] = {
     "transpose": transpose,
     "slide": slide,
     "pad": pad,
+    "asVector": lambda xs, four: Array(Vector(), xs.length / four),
+    "asScalar": lambda xs: Array(Word(), xs.length * FOUR),
 }

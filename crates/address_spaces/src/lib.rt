@@ -1,7 +1,7 @@
 //! Which memory holds what a term computes: an address space for each computing node.
 #![tactic(auto)]
 
-ghost use Rattle.std.specs.Prelude.{◌≡◌, ◌++◌, IfOk, OnOk};
+ghost use Rattle.std.specs.Prelude.{◌≡◌, ◌++◌, [], IfOk, OnOk};
 ghost use Rattle.lowered_tree.specs.Nodes.{own_site, sites_of, sites_among};
 ghost use Rattle.lowered_tree.specs.Spaces.{computes_at, spaces_in};
 
@@ -13,7 +13,7 @@ use std::alloc::{AllocError, Global};
 
 // Whether the node's value is stored by code of its own.
 fn computes(node: Node<'_>) -> bool
-    ensures { result ≡ computes_at (own_site node.entry) }
+    ensures { result ≡ computes_at (own_site [] node.entry) }
 {
     node.around.is_written
         && (is_lowered_map(node.term) || is_lowered_fold(node.term) || node.ty().is_element())
@@ -24,7 +24,7 @@ fn computes(node: Node<'_>) -> bool
 #[cycle(spacing)]
 fn add_children(children: Children<'_>, spaces: &mut Vec<AddressSpace>) -> Result<(), AllocError>
     ensures { OnOk result
-        (spaces.new.items ≡ spaces.old.items ++ spaces_in (sites_among children.entry)) }
+        (spaces.new.items ≡ spaces.old.items ++ spaces_in (sites_among [] [] children.entry)) }
 {
     match children {
         Children::Leaf => Ok(()),
@@ -42,10 +42,10 @@ fn add_children(children: Children<'_>, spaces: &mut Vec<AddressSpace>) -> Resul
 }
 
 // Adds the spaces of the computing nodes here and below, in preorder.
-#[tactic(auto, using(crate::proofs::Listed::here))]
+#[tactic(auto, using(crate::proofs::Listed::here, crate::proofs::Listed::of_children))]
 #[cycle(spacing)]
 fn add_spaces(node: Node<'_>, spaces: &mut Vec<AddressSpace>) -> Result<(), AllocError>
-    ensures { OnOk result (spaces.new.items ≡ spaces.old.items ++ spaces_in (sites_of node.entry)) }
+    ensures { OnOk result (spaces.new.items ≡ spaces.old.items ++ spaces_in (sites_of [] node.entry)) }
 {
     if computes(node) {
         spaces.push(node.around.space)?;

@@ -1,22 +1,23 @@
 -- Views name the cells of positions, within their arrays.
-use Rattle.std.proofs.Common.{◌≡◌, ℕ, ◌+◌, ◌<◌, Bool, true, false, List, [], ◌∷◌, refl, sym, ap, ◌∙◌, subst, ⊎_elim, arith}
+use Rattle.std.proofs.Common.{◌≡◌, ℕ, ◌+◌, ◌/◌, ◌<◌, Bool, true, false, List, [], ◌∷◌, None, refl, sym, ap, ap₂, ◌∙◌, subst, ⊎_elim, arith}
 use Rattle.kernel_tree.specs.Code as code
 use Rattle.kernel_tree.specs.Code.{Array}
-use Rattle.lift_ir.specs.Types.{Shape, Ty, Scalar, PairOf, ArrayOf, measured, width, component, flat, unflat, IsPosition}
-use Rattle.lift_ir.specs.Layouts.{operand_position, result_position}
+use Rattle.lift_ir.specs.Types.{Shape, Ty, Scalar, PairOf, ArrayOf, four, measured, width, component, flat, unflat, IsPosition}
+use Rattle.lift_ir.specs.Layouts.{Layout, Split, Join, Transpose, Reverse, Slide, Pad, operand_position, result_position}
 use Rattle.lift_ir.proofs.Positions.{operand_in, result_in, result_operand}
 use Rattle.lift_ir.proofs.Numbers.{component_below, flat_below, component_same, flat_same, position_at}
-use Rattle.printed_form.specs.Marks.{Mark, Spot}
+use Rattle.printed_form.specs.Marks.{Mark, Spot, in_lanes}
 use Rattle.index_expr.specs.Expression.{Expression}
 use Rattle.index_simplify.specs.Promises.{SameExpressionsHaveOneValue}
 use Rattle.array_views.specs.declared.array.ArrayKind.{ArrayKind}
 use Rattle.array_views.specs.declared.array.ArrayKind.TheVariants as kind
 use Rattle.array_views.specs.Arrays.{array_with}
-use Rattle.array_views.specs.Layouts.{to_operand, to_result}
+use Rattle.array_views.specs.Layouts.{asked_row, expressions, flattened, gathered, operand_asked, operand_row, result_asked, result_row, to_operand, to_result}
 use Rattle.array_views.specs.Views as view
 use Rattle.array_views.specs.Views.{PlainView}
-use Rattle.array_views.specs.Accesses.{access_at}
-use Rattle.array_views.specs.Cells.{IsWithin, number_at, AreIndices, IsViewOf, marks_at, IsAccessTo, HasArrays, IsGoal, IsWholeGoal, IsCellOf}
+use Rattle.array_views.specs.Accesses as access
+use Rattle.array_views.specs.Accesses.{access_at, in_rows}
+use Rattle.array_views.specs.Cells.{IsWithin, number_at, AreIndices, Leads, IsViewOf, marks_at, IsAccessTo, HasArrays, IsGoal, IsWholeGoal, IsCellOf}
 use Rattle.array_views.specs.Promises.{ViewsNameCells}
 use Rattle.array_views.proofs.Exact.{row_major_exact}
 use Rattle.array_views.proofs.Layouts.{operand_exact, result_exact}
@@ -54,9 +55,47 @@ module _ (sizes variables : List ℕ) where
   right_of n a b cs [] w = absurd w
   right_of n a b cs (i ∷ q) w = w
 
+  -- a vector's scalars are the lanes of its variable
+  in_vector : (n : ℕ) (cs : List Bool) (is : List Expression) (q : List ℕ) → IsPosition four cs q → IsAccessTo sizes variables (access.Vector n) (in_lanes n q)
+  in_vector n cs is [] w = absurd w
+  in_vector n cs is (j ∷ []) w = refl
+  in_vector n [] is (j ∷ k ∷ q) w = absurd w.1
+  in_vector n (c ∷ cs) is (j ∷ k ∷ q) w = absurd w.1
+
+  -- at a position of an array of arrays no row is asked for alone
+  two_asked : (m : Expression) (n k : ℕ) (u : Ty) (cs : List Bool) (is : List Expression) (q : List ℕ) → IsPosition (ArrayOf n (ArrayOf k u)) cs q → AreIndices sizes variables is q → (asked_row m is ≡ None) × (gathered m is ≡ flattened expressions m is)
+  two_asked m n k u cs is [] w g = absurd w
+  two_asked m n k u cs is (i ∷ []) w g = absurd w.1
+  two_asked m n k u cs [] (i ∷ j ∷ q) w g = absurd g
+  two_asked m n k u cs (f ∷ []) (i ∷ j ∷ q) w g = absurd g.1
+  two_asked m n k u cs (f ∷ h ∷ fs) (i ∷ j ∷ q) w g = (refl, refl)
+
+  operand_asks : (y : Layout Expression) (t u : Ty) (cs : List Bool) (is : List Expression) (q : List ℕ) → Leads sizes variables y t u → IsPosition u cs q → AreIndices sizes variables is q → (operand_row y is ≡ None) × (operand_asked y is ≡ to_operand y is)
+  operand_asks (Split m) (ArrayOf n t) u cs is q a w g = two_asked m (n / num m) (num m) t cs is q (at_position u (ArrayOf (n / num m) (ArrayOf (num m) t)) cs q a.shapes.2 w) g
+  operand_asks (Split m) Scalar u cs is q a w g = absurd a.shapes
+  operand_asks (Split m) (PairOf b c) u cs is q a w g = absurd a.shapes
+  operand_asks (Join m) t u cs is q a w g = (refl, refl)
+  operand_asks Transpose t u cs is q a w g = (refl, refl)
+  operand_asks (Reverse k) t u cs is q a w g = (refl, refl)
+  operand_asks (Slide s k) t u cs is q a w g = (refl, refl)
+  operand_asks (Pad l r k) t u cs is q a w g = (refl, refl)
+
+  result_asks : (y : Layout Expression) (t u : Ty) (cs : List Bool) (is : List Expression) (q : List ℕ) → Leads sizes variables y t u → IsPosition t cs q → AreIndices sizes variables is q → (result_row y is ≡ None) × (result_asked y is ≡ to_result y is)
+  result_asks (Join m) (ArrayOf n (ArrayOf k t)) u cs is q a w g = two_asked m n k t cs is q w g
+  result_asks (Join m) (ArrayOf n Scalar) u cs is q a w g = absurd a.shapes
+  result_asks (Join m) (ArrayOf n (PairOf b c)) u cs is q a w g = absurd a.shapes
+  result_asks (Join m) Scalar u cs is q a w g = absurd a.shapes
+  result_asks (Join m) (PairOf b c) u cs is q a w g = absurd a.shapes
+  result_asks (Split m) t u cs is q a w g = (refl, refl)
+  result_asks Transpose t u cs is q a w g = (refl, refl)
+  result_asks (Reverse k) t u cs is q a w g = (refl, refl)
+  result_asks (Slide s k) t u cs is q a w g = (refl, refl)
+  result_asks (Pad l r k) t u cs is q a w g = (refl, refl)
+
   names_cell : SameExpressionsHaveOneValue → (v : PlainView) (t : Ty) (cs : List Bool) (is : List Expression) (q : List ℕ) → IsViewOf sizes variables v t → IsPosition t cs q → AreIndices sizes variables is q → IsAccessTo sizes variables (access_at v cs is) (marks_at sizes variables v cs q)
   names_cell one_value view.Nothing t cs is q h w g = absurd h
   names_cell one_value (view.Variable n) t cs is q h w g = refl
+  names_cell one_value (view.Vector n) t cs is q h w g = in_vector n cs is q (at_position t four cs q h w)
   names_cell one_value (view.Placed k n s) t cs is q h w g =
       (ap (λ c. array_with k (n + c)) (sym (component_at num s cs)), row_major_exact sizes variables s cs is q h.1.flat h.1.small h.2 (at_position t (measured num s) cs q h.0 w) g)
   names_cell one_value (view.Both x y) t [] is q h w g = absurd (⊎_elim (λ p. at_position t (PairOf p.0 p.1) [] q p.2 w) (λ p. no_pair p.0 p.1 p.2 q (at_position t (ArrayOf p.0 (PairOf p.1 p.2)) [] q p.3 w)) h)
@@ -74,13 +113,23 @@ module _ (sizes variables : List ℕ) where
   names_cell one_value (view.Component true x) t cs is q h w g = names_cell one_value x (PairOf h.0 t) (true ∷ cs) is q h.1 w g
   names_cell one_value (view.At i x) t cs is q h w g = names_cell one_value x (ArrayOf h.0 t) cs (i ∷ is) (num i ∷ q) h.1 (h.3, w) (h.2, g)
   names_cell one_value (view.Reading y x) t cs is q h w g =
-      names_cell one_value x h.0 cs (to_operand y is) (operand_position num y q) h.1 (operand_in num y h.0 t cs q h.2.shapes w) (operand_exact sizes variables one_value y h.0 t cs is q h.2 w g)
+      let asked = operand_asks y h.0 t cs is q h.2 w g in
+      subst (λ a. IsAccessTo sizes variables a (marks_at sizes variables x cs (operand_position num y q))) (sym (ap₂ (λ r fs. in_rows r (access_at x cs fs)) asked.0 asked.1))
+      (names_cell one_value x h.0 cs (to_operand y is) (operand_position num y q) h.1 (operand_in num y h.0 t cs q h.2.shapes w) (operand_exact sizes variables one_value y h.0 t cs is q h.2 w g))
   names_cell one_value (view.Writing y x) t cs is q h w g =
-      names_cell one_value x h.0 cs (to_result y is) (result_position num y q) h.1 ((result_in num y t h.0 cs q h.3 h.2.shapes w).0) (result_exact sizes variables one_value y t h.0 cs is q h.3 h.2 w g)
+      let asked = result_asks y t h.0 cs is q h.2 w g in
+      subst (λ a. IsAccessTo sizes variables a (marks_at sizes variables x cs (result_position num y q))) (sym (ap₂ (λ r fs. in_rows r (access_at x cs fs)) asked.0 asked.1))
+      (names_cell one_value x h.0 cs (to_result y is) (result_position num y q) h.1 ((result_in num y t h.0 cs q h.3 h.2.shapes w).0) (result_exact sizes variables one_value y t h.0 cs is q h.3 h.2 w g))
+
+  lane_within : (long : Array → ℕ) (n : ℕ) (q : List ℕ) → IsWithin long (in_lanes n q)
+  lane_within long n [] = tt
+  lane_within long n (j ∷ []) = tt
+  lane_within long n (j ∷ k ∷ q) = tt
 
   pub within : (long : Array → ℕ) (v : PlainView) (t : Ty) (cs : List Bool) (q : List ℕ) → IsViewOf sizes variables v t → HasArrays sizes variables long v → IsPosition t cs q → IsWithin long (marks_at sizes variables v cs q)
   within long view.Nothing t cs q h f w = tt
   within long (view.Variable n) t cs q h f w = tt
+  within long (view.Vector n) t cs q h f w = lane_within long n q
   within long (view.Placed k n s) t cs q h f w =
       let p = at_position t (measured num s) cs q h.0 w in
       let c = component_below (measured num s) cs q p in
@@ -131,6 +180,7 @@ module _ (sizes variables : List ℕ) where
   pub differ : (v : PlainView) (t : Ty) (cs ds : List Bool) (q p : List ℕ) → IsViewOf sizes variables v t → IsGoal v → IsPosition t cs q → IsPosition t ds p → marks_at sizes variables v cs q ≡ marks_at sizes variables v ds p → (cs ≡ ds) × (q ≡ p)
   differ view.Nothing t cs ds q p h g w z e = absurd g
   differ (view.Variable n) t cs ds q p h g w z e = absurd g
+  differ (view.Vector n) t cs ds q p h g w z e = absurd g
   differ (view.Placed k n s) t cs ds q p h g w z e =
       let a = at_position t (measured num s) cs q h.0 w in
       let b = at_position t (measured num s) ds p h.0 z in
@@ -151,6 +201,7 @@ module _ (sizes variables : List ℕ) where
   pub full : (v : PlainView) (t : Ty) → IsViewOf sizes variables v t → IsWholeGoal v → (m : Mark) → IsCellOf sizes variables v m → (cs : List Bool) × (q : List ℕ) × IsPosition t cs q × (marks_at sizes variables v cs q ≡ m)
   full view.Nothing t h g m c = absurd g
   full (view.Variable n) t h g m c = absurd g
+  full (view.Vector n) t h g m c = absurd g
   full (view.Placed k n s) t h g m c =
       let e = width_at num s in
       let r = position_at (measured num s) c.0 c.1 h.1.flat (let lt = c.2 in omega arith) c.3 in (

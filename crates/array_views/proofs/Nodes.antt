@@ -1,17 +1,20 @@
 -- An index has no more nodes than the formulas put into one another.
-use Rattle.std.proofs.Common.{ℕ, ◌+◌, ◌≤◌, Bool, true, false, List, [], ◌∷◌, arith}
-use Rattle.std.specs.Prelude.{◌==◌, ◌%◌, ◌&&◌, nat_lt, if◌then◌else◌, map}
+use Rattle.std.proofs.Common.{ℕ, ◌+◌, ◌≤◌, Bool, true, false, List, [], ◌∷◌, Some, arith}
+use Rattle.std.proofs.lemmas.Int.{clamps}
+use Rattle.std.specs.Prelude.{◌==◌, ◌%◌, ◌&&◌, max, nat_lt, if◌then◌else◌, map}
 use Rattle.lift_ir.specs.Types.{Shape, Scalar, PairOf, ArrayOf}
-use Rattle.lift_ir.specs.Layouts.{Layout}
+use Rattle.lift_ir.specs.Layouts.{Layout, Split, Join, Transpose, Reverse, Slide, Pad}
 use Rattle.index_expr.specs.declared.operation.Operation.{Operation}
 use Rattle.index_expr.specs.declared.operation.Operation.TheVariants.{Sum, Product, Quotient}
 use Rattle.index_expr.specs.Expression.{Expression, Variable, Literal, Size, Binary, nodes, short_nodes, short_operation, divisor_of, scaled_nodes}
 use Rattle.index_simplify.specs.Laws.{first_part}
-use Rattle.array_views.specs.Layouts.{are_parts, cell_in_rows, expressions, to_operand, to_result}
+use Rattle.index_simplify.specs.Tests.{same}
+use Rattle.array_views.specs.Layouts.{are_parts, asked_row, cell_in_rows, expressions, gathered, row_number, to_operand, to_result}
 use Rattle.array_views.specs.Views as view
 use Rattle.array_views.specs.Views.{PlainView}
-use Rattle.array_views.specs.Accesses.{row_major, row_major_from, access_at}
-use Rattle.array_views.specs.NodeCounts.{node_counts, operand_nodes, result_nodes, row_major_nodes, placed_nodes, nodes_at, index_nodes, HaveNoMoreNodes}
+use Rattle.array_views.specs.Accesses as access
+use Rattle.array_views.specs.Accesses.{PlainAccess, in_rows, row_major, row_major_from, access_at}
+use Rattle.array_views.specs.NodeCounts.{node_counts, operand_nodes, result_nodes, gathered_nodes, row_major_nodes, placed_nodes, nodes_at, index_nodes, HaveNoMoreNodes}
 use Rattle.array_views.proofs.Layouts.{AllBy, AreAlike, operand_alike, result_alike}
 
 -- a count of nodes, which may leave some out
@@ -129,17 +132,50 @@ module _ (count : Expression → ℕ) (counts : IsCount count) where
   row_within (ArrayOf n t) (i ∷ is) (a ∷ ns) h = from_within i a t is ns h.0 h.1
   row_within t _ _ h = absurd (assumption)
 
+  -- a row that is asked for whole
+  row_number_within : (i m f : Expression) (n k : ℕ) → count i ≤ n → count f ≤ k → count (row_number (record { index = i; length = m }) f) ≤ max n (k + count m + 1)
+  row_number_within i m f n k x y = go (same f (Binary Sum (Binary Product i m) (Literal 0)))
+    where
+      go : (b : Bool) → count (if b then i else Binary Quotient f m) ≤ max n (k + count m + 1)
+      go true = omega (arith, clamps)
+      go false = let z = binary_within Quotient f m k (count m) y (omega arith) in omega (arith, clamps)
+
+  row_within_rows : (i m : Expression) (n k : ℕ) (a : PlainAccess) → count i ≤ n → index_nodes count a ≤ k → index_nodes count (in_rows (Some (record { index = i; length = m })) a) ≤ max n (k + count m + 1)
+  row_within_rows i m n k access.Nothing x y = omega (arith, clamps)
+  row_within_rows i m n k (access.Variable v) x y = omega (arith, clamps)
+  row_within_rows i m n k (access.Vector v) x y = omega (arith, clamps)
+  row_within_rows i m n k (access.InCell a f) x y = row_number_within i m f n k x y
+
+  gathered_within : (m : Expression) (x : List Expression → PlainAccess) (k : List ℕ → ℕ) → ((is : List Expression) (ns : List ℕ) → AreWithin is ns → index_nodes count (x is) ≤ k ns) → (is : List Expression) (ns : List ℕ) → AreWithin is ns → index_nodes count (in_rows (asked_row m is) (x (gathered m is))) ≤ gathered_nodes count (count m) k ns
+  gathered_within m x k f [] [] h = f [] [] tt
+  gathered_within m x k f (i ∷ []) (a ∷ []) h =
+      row_within_rows i m a (k ((a + count m + 1 + 1 + 1) ∷ [])) (x (cell_in_rows i m (Literal 0) ∷ [])) h.0
+      (f (cell_in_rows i m (Literal 0) ∷ []) ((a + count m + 1 + 1 + 1) ∷ []) (cell_within i m (Literal 0) a (count m) 1 h.0 (omega arith) (counts.literal 0), tt))
+  gathered_within m x k f (i ∷ j ∷ is) (a ∷ b ∷ ns) h = f (cell_in_rows i m j ∷ is) ((a + count m + 1 + b + 1) ∷ ns) (cell_within i m j a (count m) b h.0 (omega arith) h.1.0, h.1.1)
+  gathered_within m x k f _ _ h = absurd (assumption)
+
   within : (v : PlainView) (cs : List Bool) (is : List Expression) (ns : List ℕ) → AreWithin is ns → index_nodes count (access_at v cs is) ≤ nodes_at count v cs ns
   within view.Nothing cs is ns h = omega arith
   within (view.Variable n) cs is ns h = omega arith
+  within (view.Vector n) cs is ns h = omega arith
   within (view.Placed k n t) cs is ns h = row_within t is ns h
   within (view.Both x y) [] is ns h = omega arith
   within (view.Both x y) (false ∷ cs) is ns h = within x cs is ns h
   within (view.Both x y) (true ∷ cs) is ns h = within y cs is ns h
   within (view.Component s x) cs is ns h = within x (s ∷ cs) is ns h
   within (view.At i x) cs is ns h = within x cs (i ∷ is) (count i ∷ ns) (omega arith, h)
-  within (view.Reading y x) cs is ns h = within x cs (to_operand y is) (operand_nodes count y ns) (operand_within y is ns h)
-  within (view.Writing y x) cs is ns h = within x cs (to_result y is) (result_nodes count y ns) (result_within y is ns h)
+  within (view.Reading (Split m) x) cs is ns h = gathered_within m (access_at x cs) (nodes_at count x cs) (within x cs) is ns h
+  within (view.Reading (Join m) x) cs is ns h = within x cs (to_operand (Join m) is) (operand_nodes count (Join m) ns) (operand_within (Join m) is ns h)
+  within (view.Reading Transpose x) cs is ns h = within x cs (to_operand Transpose is) (operand_nodes count Transpose ns) (operand_within Transpose is ns h)
+  within (view.Reading (Reverse n) x) cs is ns h = within x cs (to_operand (Reverse n) is) (operand_nodes count (Reverse n) ns) (operand_within (Reverse n) is ns h)
+  within (view.Reading (Slide s t) x) cs is ns h = within x cs (to_operand (Slide s t) is) (operand_nodes count (Slide s t) ns) (operand_within (Slide s t) is ns h)
+  within (view.Reading (Pad l r n) x) cs is ns h = within x cs (to_operand (Pad l r n) is) (operand_nodes count (Pad l r n) ns) (operand_within (Pad l r n) is ns h)
+  within (view.Writing (Split m) x) cs is ns h = within x cs (to_result (Split m) is) (result_nodes count (Split m) ns) (result_within (Split m) is ns h)
+  within (view.Writing (Join m) x) cs is ns h = gathered_within m (access_at x cs) (nodes_at count x cs) (within x cs) is ns h
+  within (view.Writing Transpose x) cs is ns h = within x cs (to_result Transpose is) (result_nodes count Transpose ns) (result_within Transpose is ns h)
+  within (view.Writing (Reverse n) x) cs is ns h = within x cs (to_result (Reverse n) is) (result_nodes count (Reverse n) ns) (result_within (Reverse n) is ns h)
+  within (view.Writing (Slide s t) x) cs is ns h = within x cs (to_result (Slide s t) is) (result_nodes count (Slide s t) ns) (result_within (Slide s t) is ns h)
+  within (view.Writing (Pad l r n) x) cs is ns h = within x cs (to_result (Pad l r n) is) (result_nodes count (Pad l r n) ns) (result_within (Pad l r n) is ns h)
 
   pub no_more_nodes : HaveNoMoreNodes count
   no_more_nodes v cs is = within v cs is (map count is) (themselves is)

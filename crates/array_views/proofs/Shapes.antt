@@ -1,5 +1,5 @@
 -- Types whose lengths are spelled.
-use Rattle.std.proofs.Common.{◌≡◌, ℕ, ◌+◌, ◌≤◌, Bool, true, false, List, [], ◌∷◌, refl, ap, ◌∙◌, arith}
+use Rattle.std.proofs.Common.{◌≡◌, ℕ, zero, suc, ◌+◌, ◌≤◌, Bool, true, false, List, [], ◌∷◌, None, refl, sym, ap, ◌∙◌, arith}
 use Rattle.std.proofs.Math.Path.{fun_ext}
 use Rattle.kernel_tree.specs.Formula as formula
 use Rattle.kernel_tree.specs.Formula.{Formula}
@@ -7,9 +7,25 @@ use Rattle.kernel_tree.specs.Code.{Array}
 use Rattle.scalar_ops.specs.declared.op.Op.TheVariants.{Add, Mul}
 use Rattle.lift_ir.specs.Types.{Shape, Scalar, PairOf, ArrayOf, width, component}
 use Rattle.printed_form.specs.Views.{Read, placed_view, index_from, index_in}
-use Rattle.index_expr.specs.Expression.{Expression}
-use Rattle.length_spelling.specs.Formulas.{index_formula}
+use Rattle.size_arith.specs.declared.names.Name.{Name}
+use Rattle.lift_tree.specs.Typing.{constant}
+use Rattle.index_expr.specs.Expression.{Expression, Literal}
+use Rattle.index_expr.specs.Lengths.{product_expression, with_coefficient}
+use Rattle.length_spelling.specs.Formulas.{in_words, index_formula, spelled_length}
 use Rattle.array_views.specs.Arrays.{spelled_shape}
+
+-- a number is spelled so, whatever the sizes
+abbrev zeros : ℕ → List ℕ
+zeros zero = []
+zeros (suc n) = 0 ∷ zeros n
+
+no_sizes : (k n : ℕ) (names : List Name) → product_expression k names (zeros n) ≡ None
+no_sizes k n [] = refl
+no_sizes k zero (x ∷ names) = refl
+no_sizes k (suc n) (x ∷ names) = no_sizes (suc k) n names
+
+pub spelled_four : (names : List Name) → Literal 4 ≡ spelled_length names (constant 4)
+spelled_four names = ap (λ e. in_words (with_coefficient 4 e)) (sym (no_sizes 0 8 names))
 
 pub some_width : {A : Type 0} (t : Shape A) → 1 ≤ width t
 some_width Scalar = omega arith

@@ -1,15 +1,15 @@
 -- What a view says is what the printed form's says.
-use Rattle.std.proofs.Common.{◌≡◌, ℕ, zero, suc, ◌+◌, ◌<◌, Bool, true, false, List, [], ◌∷◌, refl, ap, ap₂, ◌∙◌, arith, eq-eqb}
+use Rattle.std.proofs.Common.{◌≡◌, ℕ, zero, suc, ◌+◌, ◌<◌, Bool, true, false, List, [], ◌∷◌, Some, refl, ap, ap₂, ◌∙◌, arith, eq-eqb}
 use Rattle.std.proofs.lemmas.Bool.{eqb-true, ne_eqb}
 use Rattle.std.specs.Prelude.{◌&&◌, ◌==◌, if◌then◌else◌, map}
 use Rattle.lift_ir.specs.Types.{Shape, Scalar, PairOf, ArrayOf, component}
-use Rattle.lift_ir.specs.Layouts.{Layout}
+use Rattle.lift_ir.specs.Layouts.{Layout, Split, Join, Transpose, Reverse, Slide, Pad}
 use Rattle.kernel_tree.specs.Formula.{Formula}
 use Rattle.kernel_tree.specs.Formula as formula
 use Rattle.scalar_ops.specs.declared.op.Op.{Op}
 use Rattle.scalar_ops.specs.declared.op.Op.TheVariants.{Add, Mul, Div}
 use Rattle.printed_form.specs.Views as printed
-use Rattle.printed_form.specs.Views.{Read, same_operator, same_formula, index_from, index_in, operand_indices, result_indices}
+use Rattle.printed_form.specs.Views.{Read, same_operator, same_formula, index_from, index_in, operand_indices, result_indices, row_sign, view_of_rows}
 use Rattle.index_expr.specs.declared.operation.Operation.{Operation}
 use Rattle.index_expr.specs.declared.operation.Operation.TheVariants.{Sum, Difference, Product, Quotient, Remainder, Least, Greatest}
 use Rattle.index_expr.specs.Expression.{Expression, Variable, Literal, Size, Binary}
@@ -18,11 +18,12 @@ use Rattle.index_simplify.specs.Tests.{same_operation, same}
 use Rattle.length_spelling.specs.Turns.{turn_formula}
 use Rattle.length_spelling.specs.Formulas.{operator_of, index_formula}
 use Rattle.array_views.specs.Arrays.{array_with}
-use Rattle.array_views.specs.Layouts.{are_parts, cell_in_rows, expressions, to_operand, to_result}
+use Rattle.array_views.specs.Layouts.{are_parts, asked_row, cell_in_rows, expressions, gathered, row_number, to_operand, to_result}
 use Rattle.array_views.proofs.Layouts.{AllBy, AreAlike, formulas, operand_alike, operand_printed, result_alike, result_printed}
 use Rattle.array_views.specs.Views as view
 use Rattle.array_views.specs.Views.{PlainView, view_of}
-use Rattle.array_views.specs.Accesses.{sign_of, row_major, row_major_from, access_at}
+use Rattle.array_views.specs.Accesses as access
+use Rattle.array_views.specs.Accesses.{PlainAccess, in_rows, sign_of, row_major, row_major_from, access_at}
 
 from_formula : (i : Expression) (t : Shape Expression) (is : List Expression) → index_formula (row_major_from i t is) ≡ index_from index_formula (index_formula i) t (map index_formula is)
 from_formula i Scalar is = refl
@@ -196,14 +197,48 @@ operand_is y is = mapped _ _ (operand_alike expressions formulas IsFormulaOf as_
 result_is : (y : Layout Expression) (is : List Expression) → map index_formula (to_result y is) ≡ result_indices index_formula y (map index_formula is)
 result_is y is = mapped _ _ (result_alike expressions formulas IsFormulaOf as_formulas (λ m. m) index_formula (λ m. refl) y is (map index_formula is) (their_formulas is)) ∙ result_printed index_formula y (map index_formula is)
 
+-- ---- rows that are asked for whole
+row_is : (i m f : Expression) → index_formula (row_number (record { index = i; length = m }) f) ≡ printed.row_number (index_formula i) (index_formula m) (index_formula f)
+row_is i m f = chosen (same f begin) ∙ ap (λ b. if b then index_formula i else formula.Binary Div (index_formula f) (index_formula m)) (same_is f begin)
+  where
+    begin : Expression
+    begin = Binary Sum (Binary Product i m) (Literal 0)
+
+    chosen : (b : Bool) → index_formula (if b then i else Binary Quotient f m) ≡ (if b then index_formula i else formula.Binary Div (index_formula f) (index_formula m))
+    chosen true = refl
+    chosen false = refl
+
+row_sign_is : (i m : Expression) (a : PlainAccess) → sign_of (in_rows (Some (record { index = i; length = m })) a) ≡ row_sign (index_formula i) (index_formula m) (sign_of a)
+row_sign_is i m access.Nothing = refl
+row_sign_is i m (access.Variable n) = refl
+row_sign_is i m (access.Vector n) = refl
+row_sign_is i m (access.InCell a f) = ap (Read a) (row_is i m f)
+
+gathered_is : (m : Expression) (x : PlainView) (cs : List Bool) → ((is : List Expression) → sign_of (access_at x cs is) ≡ view_of x cs (map index_formula is)) → (is : List Expression) → sign_of (in_rows (asked_row m is) (access_at x cs (gathered m is))) ≡ view_of_rows (index_formula m) (view_of x) cs (map index_formula is)
+gathered_is m x cs h [] = h []
+gathered_is m x cs h (i ∷ []) =
+    row_sign_is i m (access_at x cs (cell_in_rows i m (Literal 0) ∷ [])) ∙ ap (row_sign (index_formula i) (index_formula m)) (h (cell_in_rows i m (Literal 0) ∷ []) ∙ ap (λ f. view_of x cs (f ∷ [])) (cell_is i m (Literal 0)))
+gathered_is m x cs h (i ∷ j ∷ is) = h (cell_in_rows i m j ∷ is) ∙ ap (λ f. view_of x cs (f ∷ map index_formula is)) (cell_is i m j)
+
 pub sign_is : (v : PlainView) (cs : List Bool) (is : List Expression) → sign_of (access_at v cs is) ≡ view_of v cs (map index_formula is)
 sign_is view.Nothing cs is = refl
 sign_is (view.Variable n) cs is = refl
+sign_is (view.Vector n) cs is = refl
 sign_is (view.Placed k n t) cs is = ap (Read (array_with k (n + component t cs))) (index_is t is)
 sign_is (view.Both x y) [] is = refl
 sign_is (view.Both x y) (false ∷ cs) is = sign_is x cs is
 sign_is (view.Both x y) (true ∷ cs) is = sign_is y cs is
 sign_is (view.Component s x) cs is = sign_is x (s ∷ cs) is
 sign_is (view.At i x) cs is = sign_is x cs (i ∷ is)
-sign_is (view.Reading y x) cs is = sign_is x cs (to_operand y is) ∙ ap (view_of x cs) (operand_is y is)
-sign_is (view.Writing y x) cs is = sign_is x cs (to_result y is) ∙ ap (view_of x cs) (result_is y is)
+sign_is (view.Reading (Split m) x) cs is = gathered_is m x cs (sign_is x cs) is
+sign_is (view.Reading (Join m) x) cs is = sign_is x cs (to_operand (Join m) is) ∙ ap (view_of x cs) (operand_is (Join m) is)
+sign_is (view.Reading Transpose x) cs is = sign_is x cs (to_operand Transpose is) ∙ ap (view_of x cs) (operand_is Transpose is)
+sign_is (view.Reading (Reverse n) x) cs is = sign_is x cs (to_operand (Reverse n) is) ∙ ap (view_of x cs) (operand_is (Reverse n) is)
+sign_is (view.Reading (Slide s t) x) cs is = sign_is x cs (to_operand (Slide s t) is) ∙ ap (view_of x cs) (operand_is (Slide s t) is)
+sign_is (view.Reading (Pad l r n) x) cs is = sign_is x cs (to_operand (Pad l r n) is) ∙ ap (view_of x cs) (operand_is (Pad l r n) is)
+sign_is (view.Writing (Split m) x) cs is = sign_is x cs (to_result (Split m) is) ∙ ap (view_of x cs) (result_is (Split m) is)
+sign_is (view.Writing (Join m) x) cs is = gathered_is m x cs (sign_is x cs) is
+sign_is (view.Writing Transpose x) cs is = sign_is x cs (to_result Transpose is) ∙ ap (view_of x cs) (result_is Transpose is)
+sign_is (view.Writing (Reverse n) x) cs is = sign_is x cs (to_result (Reverse n) is) ∙ ap (view_of x cs) (result_is (Reverse n) is)
+sign_is (view.Writing (Slide s t) x) cs is = sign_is x cs (to_result (Slide s t) is) ∙ ap (view_of x cs) (result_is (Slide s t) is)
+sign_is (view.Writing (Pad l r n) x) cs is = sign_is x cs (to_result (Pad l r n) is) ∙ ap (view_of x cs) (result_is (Pad l r n) is)

@@ -2,7 +2,7 @@
 use Rattle.std.specs.Prelude.{ℕ, ◌+◌, Bool, true, false, List, [], ◌∷◌, Option, Some, None}
 use Rattle.kernel_tree.specs.Code.{Array}
 use Rattle.lift_ir.specs.Types.{Shape, ArrayOf, component}
-use Rattle.printed_form.specs.Views.{Sign, Blank, Held, Read}
+use Rattle.printed_form.specs.Views.{Sign, Blank, Held, HeldFour, Read}
 use Rattle.index_expr.specs.declared.operation.Operation.TheVariants.{Sum, Product}
 use Rattle.index_expr.specs.Expression.{Expression, Literal, Binary, expression_of}
 use Rattle.array_views.specs.declared.access.Cell.{Cell}
@@ -10,7 +10,7 @@ use Rattle.array_views.specs.declared.access.Access.{Access}
 use Rattle.array_views.specs.declared.access.Access.TheVariants as access
 use Rattle.length_spelling.specs.Formulas.{index_formula}
 use Rattle.array_views.specs.Arrays.{array_with}
-use Rattle.array_views.specs.Layouts.{to_operand, to_result}
+use Rattle.array_views.specs.Layouts.{PlainRow, row_number, operand_row, operand_asked, result_row, result_asked}
 use Rattle.array_views.specs.Views as view
 use Rattle.array_views.specs.Views.{PlainView}
 
@@ -18,6 +18,7 @@ use Rattle.array_views.specs.Views.{PlainView}
 pub data PlainAccess : Type 0 where
   Nothing : PlainAccess
   Variable : (number : ℕ) → PlainAccess
+  Vector : (number : ℕ) → PlainAccess
   InCell : (array : Array) → (index : Expression) → PlainAccess
 
 -- a cell of an array
@@ -28,6 +29,7 @@ cell_of c = InCell (array_with c.kind c.array) (expression_of c.index)
 abbrev pub access_of : Access → PlainAccess
 access_of access.Nothing = Nothing
 access_of (access.Variable n) = Variable n
+access_of (access.Vector n) = Vector n
 access_of (access.InCell c) = cell_of c
 
 -- where a scalar goes: a cell, or nowhere
@@ -39,6 +41,7 @@ target_of (Some c) = cell_of c
 abbrev pub sign_of : PlainAccess → Sign
 sign_of Nothing = Blank
 sign_of (Variable n) = Held n
+sign_of (Vector n) = HeldFour n
 sign_of (InCell a i) = Read a (index_formula i)
 
 -- a cell is written, a variable isn't
@@ -56,6 +59,11 @@ abbrev pub row_major : Shape Expression → List Expression → Expression
 row_major (ArrayOf n t) (i ∷ q) = row_major_from i t q
 row_major _ _ = Literal 0
 
+-- the first cell of a row, if there is one, as the row by its number
+abbrev pub in_rows : Option PlainRow → PlainAccess → PlainAccess
+in_rows (Some r) (InCell a f) = InCell a (row_number r f)
+in_rows _ x = x
+
 -- the side that is chosen
 abbrev pub chosen : List Bool → (nothing : PlainAccess) → (left right : List Bool → PlainAccess)
     → PlainAccess
@@ -67,10 +75,13 @@ chosen (true ∷ cs) n f g = g cs
 abbrev pub access_at : PlainView → List Bool → List Expression → PlainAccess
 access_at view.Nothing cs is = Nothing
 access_at (view.Variable n) cs is = Variable n
+access_at (view.Vector n) cs is = Vector n
 access_at (view.Placed k n t) cs is = InCell (array_with k (n + component t cs)) (row_major t is)
 access_at (view.Both x y) cs is =
     chosen cs Nothing (λ cs. access_at x cs is) (λ cs. access_at y cs is)
 access_at (view.Component s x) cs is = access_at x (s ∷ cs) is
 access_at (view.At i x) cs is = access_at x cs (i ∷ is)
-access_at (view.Reading y x) cs is = access_at x cs (to_operand y is)
-access_at (view.Writing y x) cs is = access_at x cs (to_result y is)
+access_at (view.Reading y x) cs is =
+    in_rows (operand_row y is) (access_at x cs (operand_asked y is))
+access_at (view.Writing y x) cs is =
+    in_rows (result_row y is) (access_at x cs (result_asked y is))

@@ -2,15 +2,15 @@
 use Rattle.std.specs.Prelude.{◌≡◌, ℕ, ◌+◌, ◌<◌, ◌⊎◌, pos, true, false, List, [], ◌∷◌}
 use Rattle.kernel_tree.specs.Code.{Array}
 use Rattle.lift_ir.specs.AtLaunch.{natural}
-use Rattle.lift_ir.specs.Types.{Shape, Ty, Scalar, PairOf, ArrayOf, measured, width, size, IsShort, IsPlaced}
+use Rattle.lift_ir.specs.Types.{Shape, Ty, Scalar, PairOf, ArrayOf, four, measured, width, size, IsShort, IsPlaced}
 use Rattle.lift_ir.specs.Layouts.{Layout, operand_position, result_position, Reshapes, IsInvertible, HasWordStep}
 use Rattle.lift_ir.specs.Scalars.{by_side, at_index}
-use Rattle.printed_form.specs.Marks.{Mark, Nowhere, Register, Spot, Marks, laid_in}
+use Rattle.printed_form.specs.Marks.{Mark, Nowhere, Register, Lane, Spot, Marks, laid_in, in_lanes}
 use Rattle.index_expr.specs.Expression.{Expression}
 use Rattle.index_expr.specs.Values.{exact, IsRangedAt, HasNoZeroDivisorAt}
 use Rattle.array_views.specs.Arrays.{array_with}
 use Rattle.array_views.specs.Layouts.{EachLength}
-use Rattle.array_views.specs.Views.{PlainView, Nothing, Variable, Placed, Both, Component, At, Reading, Writing}
+use Rattle.array_views.specs.Views.{PlainView, Nothing, Variable, Vector, Placed, Both, Component, At, Reading, Writing}
 use Rattle.array_views.specs.Accesses as access
 use Rattle.array_views.specs.Accesses.{PlainAccess}
 
@@ -72,6 +72,7 @@ module _ (sizes variables : List ℕ) where
   abbrev pub IsViewOf : PlainView → Ty → Type 0
   IsViewOf Nothing t = ⊥
   IsViewOf (Variable n) t = t ≡ Scalar
+  IsViewOf (Vector n) t = t ≡ four
   IsViewOf (Placed k n s) t = (t ≡ measured number_at s) × IsPlaced number_at s × HasLengths s
   IsViewOf (Both x y) t =
       ((a b : Ty) × (t ≡ PairOf a b) × IsViewOf x a × IsViewOf y b)
@@ -88,6 +89,7 @@ module _ (sizes variables : List ℕ) where
   abbrev pub marks_at : PlainView → Marks
   marks_at Nothing = λ cs q. Nowhere
   marks_at (Variable n) = λ cs q. Register n
+  marks_at (Vector n) = λ cs q. in_lanes n q
   marks_at (Placed k n s) = laid_in (array_with k) n (measured number_at s)
   marks_at (Both x y) = by_side (λ q. Nowhere) (marks_at x) (marks_at y)
   marks_at (Component s x) = λ cs q. marks_at x (s ∷ cs) q
@@ -98,6 +100,7 @@ module _ (sizes variables : List ℕ) where
   -- the access is to this
   abbrev pub IsAccessTo : PlainAccess → Mark → Type 0
   IsAccessTo (access.Variable n) (Register v) = n ≡ v
+  IsAccessTo (access.Vector n) (Lane v j) = n ≡ v
   IsAccessTo (access.InCell a e) (Spot b n) = (a ≡ b) × IsIndex e n
   IsAccessTo _ _ = ⊥
 

@@ -1,11 +1,12 @@
 -- Layouts, on index expressions and on whatever else stands for indices and is calculated with.
-use Rattle.std.specs.Prelude.{ℕ, ◌&&◌, if◌then◌else◌, Bool, false, List, ◌∷◌}
+use Rattle.std.specs.Prelude.{ℕ, ◌&&◌, if◌then◌else◌, Bool, false, List, [], ◌∷◌, Option, Some, None}
 use Rattle.lift_ir.specs.Layouts as ir
 use Rattle.index_expr.specs.declared.operation.Operation.{Operation}
 use Rattle.index_expr.specs.declared.operation.Operation.TheVariants.{Sum, Difference, Product, Quotient, Remainder, Least, Greatest}
 use Rattle.index_expr.specs.Expression.{Expression, Literal, Binary, expression_of}
 use Rattle.index_simplify.specs.Laws.{first_part}
 use Rattle.index_simplify.specs.Tests.{same}
+use Rattle.array_views.specs.declared.layout.Row.{Row}
 use Rattle.array_views.specs.declared.layout.Layout.{Layout}
 use Rattle.array_views.specs.declared.layout.Layout.TheVariants as layout
 
@@ -115,3 +116,51 @@ to_operand y is = operand_of expressions (λ m. m) y is
 -- the indices in the result of indices in the operand, for join, split, transpose and reverse
 abbrev pub to_result : ir.Layout Expression → List Expression → List Expression
 to_result y is = result_of expressions (λ m. m) y is
+
+-- ---- a row at its index alone, as a vector is asked for
+
+-- a row by its index, of rows of this length
+pub record PlainRow : Type 0 where
+  pub index : Expression
+  pub length : Expression
+
+-- the row that is held
+abbrev pub row_in : Row → PlainRow
+row_in r = record { index = expression_of r.index; length = expression_of r.length }
+
+-- the number of a row of this length, where its first cell has this number: where that is the
+-- cell's at the row's index times the length, the index
+abbrev pub row_number : PlainRow → (first : Expression) → Expression
+row_number r f =
+    if same f (Binary Sum (Binary Product r.index r.length) (Literal 0)) then r.index
+    else Binary Quotient f r.length
+
+-- the row, where its index is asked alone
+abbrev pub asked_row : (length : Expression) → List Expression → Option PlainRow
+asked_row m (i ∷ []) = Some (record { index = i; length = m })
+asked_row m _ = None
+
+-- the index in rows of this length one after another, of a row alone that of its first cell
+abbrev pub gathered : (length : Expression) → List Expression → List Expression
+gathered m (i ∷ []) = cell_in_rows i m (Literal 0) ∷ []
+gathered m is = flattened expressions m is
+
+-- the row of what is read through a layout
+abbrev pub operand_row : ir.Layout Expression → List Expression → Option PlainRow
+operand_row (ir.Split m) is = asked_row m is
+operand_row _ is = None
+
+-- the indices in the operand then
+abbrev pub operand_asked : ir.Layout Expression → List Expression → List Expression
+operand_asked (ir.Split m) is = gathered m is
+operand_asked y is = to_operand y is
+
+-- the row of where the operand goes
+abbrev pub result_row : ir.Layout Expression → List Expression → Option PlainRow
+result_row (ir.Join m) is = asked_row m is
+result_row _ is = None
+
+-- the indices in the result then
+abbrev pub result_asked : ir.Layout Expression → List Expression → List Expression
+result_asked (ir.Join m) is = gathered m is
+result_asked y is = to_result y is

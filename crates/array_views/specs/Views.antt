@@ -4,7 +4,7 @@ use Rattle.lift_ir.specs.Types.{Shape}
 use Rattle.lift_ir.specs.Layouts.{Layout}
 use Rattle.lift_ir.specs.Terms as ir
 use Rattle.lift_ir.specs.Scalars.{by_side}
-use Rattle.printed_form.specs.Views.{Blank, Held, View, view_at, operand_indices, result_indices, placed_view}
+use Rattle.printed_form.specs.Views.{Blank, Held, HeldFour, View, view_at, reshaped_view, rewritten_view, placed_view}
 use Rattle.index_expr.specs.Expression.{Expression, expression_of}
 use Rattle.array_views.specs.declared.array.ArrayKind.{ArrayKind}
 use Rattle.array_views.specs.declared.load_set.LoadSet.{LoadSet}
@@ -20,6 +20,7 @@ use Rattle.array_views.specs.Layouts.{layout_in}
 pub data PlainView : Type 0 where
   Nothing : PlainView
   Variable : (number : ℕ) → PlainView
+  Vector : (number : ℕ) → PlainView
   Placed : ArrayKind → (first : ℕ) → Shape Expression → PlainView
   Both : (left right : PlainView) → PlainView
   Component : (second : Bool) → PlainView → PlainView
@@ -31,6 +32,7 @@ pub data PlainView : Type 0 where
 abbrev pub plain_of : Node → PlainView
 plain_of node.Nothing = Nothing
 plain_of (node.Variable n) = Variable n
+plain_of (node.Vector n) = Vector n
 plain_of (node.Placed p) = Placed p.kind p.first (extent_of p.extent)
 plain_of (node.Both' p a q b) = Both (plain_of a) (plain_of b)
 plain_of (node.Component' s p a) = Component s (plain_of a)
@@ -42,12 +44,13 @@ plain_of (node.Writing' y p a) = Writing (layout_in y) (plain_of a)
 abbrev pub view_of : PlainView → View
 view_of Nothing = λ cs is. Blank
 view_of (Variable n) = λ cs is. Held n
+view_of (Vector n) = λ cs is. HeldFour n
 view_of (Placed k n t) = placed_view index_formula (array_with k) n t
 view_of (Both x y) = by_side (λ is. Blank) (view_of x) (view_of y)
 view_of (Component s x) = λ cs is. view_of x (s ∷ cs) is
 view_of (At i x) = view_at (index_formula i) (view_of x)
-view_of (Reading y x) = λ cs is. view_of x cs (operand_indices index_formula y is)
-view_of (Writing y x) = λ cs is. view_of x cs (result_indices index_formula y is)
+view_of (Reading y x) = reshaped_view index_formula y (view_of x)
+view_of (Writing y x) = rewritten_view index_formula y (view_of x)
 
 -- the view that is held
 abbrev pub plain_in : held.View → PlainView
@@ -61,4 +64,5 @@ view_in v = view_of (plain_in v)
 abbrev pub loads_of : LoadSet → ir.LoadSet
 loads_of load.Skip = ir.Skip
 loads_of load.Take = ir.Take
+loads_of load.TakeFour = ir.TakeFour
 loads_of (load.Each' p a q b) = ir.Each (loads_of a) (loads_of b)

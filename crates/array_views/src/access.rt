@@ -1,10 +1,13 @@
 //! What stands for a scalar.
 
-ghost use Rattle.std.specs.Prelude.{◌≡◌};
-ghost use Rattle.array_views.specs.Accesses.{access_of, cell_alone, target_of};
+ghost use Rattle.std.specs.Prelude.{◌≡◌, IfOk, option_map};
+ghost use Rattle.array_views.specs.Layouts.{row_in};
+ghost use Rattle.array_views.specs.Accesses.{access_of, cell_alone, in_rows, target_of};
 
 use crate::array::ArrayKind;
+use crate::layout::Row;
 use index_expr::Index;
+use std::alloc::{AllocError, Global};
 
 /// A cell of the array of this kind and number.
 #[derive(Drop)]
@@ -21,6 +24,8 @@ pub enum Access {
     Nothing,
     /// A private variable, by its number.
     Variable(u32),
+    /// A private variable of four words, which holds the vector that is asked for.
+    Vector(u32),
     InCell(Cell),
 }
 
@@ -30,8 +35,31 @@ impl Access {
         ensures { target_of result ≡ cell_alone (access_of self) }
     {
         match self {
-            Access::Nothing | Access::Variable(_) => None,
+            Access::Nothing | Access::Variable(_) | Access::Vector(_) => None,
             Access::InCell(cell) => Some(cell),
+        }
+    }
+
+    /// The same, where this is the first cell of a row, if there is one: the row by its number.
+    pub fn in_rows(self, alloc: Global, row: Option<Row>) -> Result<Self, AllocError>
+        ensures { IfOk result
+            (λ a. access_of a ≡ in_rows (option_map row_in row) (access_of self)) }
+    {
+        match row {
+            None => Ok(self),
+            Some(row) => match self {
+                Access::Nothing => Ok(Access::Nothing),
+                Access::Variable(number) => Ok(Access::Variable(number)),
+                Access::Vector(number) => Ok(Access::Vector(number)),
+                Access::InCell(cell) => {
+                    let number = row.number(alloc, cell.index)?;
+                    Ok(Access::InCell(Cell {
+                        kind: cell.kind,
+                        array: cell.array,
+                        index: number,
+                    }))
+                }
+            },
         }
     }
 }

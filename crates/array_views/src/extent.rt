@@ -3,7 +3,7 @@
 ghost use Rattle.std.specs.Prelude.{◌≡◌, ◌≤◌, ◌<◌, ◌^◌, [], IfOk};
 ghost use Rattle.lift_tree.specs.Types.{ty_of};
 ghost use Rattle.lift_ir.specs.AtLaunch.{length_at, shape_of, ty_at};
-ghost use Rattle.lift_ir.specs.Types.{width, component, IsShort};
+ghost use Rattle.lift_ir.specs.Types.{ArrayOf, Scalar, width, component, IsShort};
 ghost use Rattle.index_expr.specs.declared.operation.Operation.TheVariants.{Sum, Product};
 ghost use Rattle.index_expr.specs.Expression.{Binary, Literal, expression_of};
 ghost use Rattle.length_spelling.specs.Formulas.{spelled_length};
@@ -28,13 +28,23 @@ pub enum Extent {
 }
 
 impl Extent {
+    // Four numbers.
+    fn four(alloc: Global) -> Result<Self, AllocError>
+        ensures { IfOk result (λ e. extent_of e ≡ ArrayOf (Literal 4) Scalar) }
+    {
+        let element = Box::new(alloc, Extent::Scalar)?;
+        Ok(Extent::Array(Index::Literal(4), element))
+    }
+
     /// A type, its lengths spelled over the sizes.
+    #[tactic(auto, using(crate::proofs::Shapes::spelled_four))]
     pub fn spelled(alloc: Global, names: &Names, ty: &Ty) -> Result<Self, AllocError>
         ensures { IfOk result (λ e. extent_of e
             ≡ spelled_shape (spelled_length names.now) (shape_of (ty_of ty.now))) }
     {
         match ty {
             Ty::Number => Ok(Extent::Scalar),
+            Ty::Vector => Extent::four(alloc),
             Ty::Pair(a, b) => {
                 let a = Box::new(alloc, Extent::spelled(alloc, names, a)?)?;
                 Ok(Extent::Pair(a, Box::new(alloc, Extent::spelled(alloc, names, b)?)?))
@@ -53,6 +63,7 @@ impl Extent {
     {
         match ty {
             Ty::Number => Ok(Extent::Scalar),
+            Ty::Vector => Extent::four(alloc),
             Ty::Pair(a, b) => {
                 let a = Box::new(alloc, Extent::literal(alloc, a)?)?;
                 Ok(Extent::Pair(a, Box::new(alloc, Extent::literal(alloc, b)?)?))

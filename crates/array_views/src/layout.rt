@@ -1,6 +1,6 @@
 //! Layouts, as functions on stacks of indices.
 
-ghost use Rattle.std.specs.Prelude.{◌≡◌, IfOk, OnOk};
+ghost use Rattle.std.specs.Prelude.{◌≡◌, IfOk, OnOk, option_map};
 ghost use Rattle.lift_tree.specs.Types.{ty_of};
 ghost use Rattle.lift_ir.specs.AtLaunch.{inner_of, layout_of, outer_of};
 ghost use Rattle.index_expr.specs.Expression.{Literal, expression_of};
@@ -8,7 +8,7 @@ ghost use Rattle.length_spelling.specs.Formulas.{spelled_length};
 ghost use Rattle.array_views.specs.Stacks.{indices_in};
 ghost use Rattle.index_simplify.specs.Laws.{first_part};
 ghost use Rattle.array_views.specs.Layouts as spec;
-ghost use Rattle.array_views.specs.Layouts.{layout_in, spelled_layout, expressions, flattened, parted, swapped, turned, clamped, to_operand, to_result};
+ghost use Rattle.array_views.specs.Layouts.{layout_in, spelled_layout, expressions, flattened, gathered, parted, swapped, turned, clamped, row_in, asked_row, operand_row, operand_asked, result_row, result_asked};
 
 use crate::extent::flat_index;
 use crate::stack::IndexStack;
@@ -20,6 +20,31 @@ use lift_tree::term::UnaryForm;
 use lift_tree::ty::Ty;
 use size_arith::Names;
 use std::alloc::{AllocError, Global};
+
+/// A row by its index, of rows of this length.
+#[derive(Drop)]
+pub struct Row {
+    pub index: Index,
+    pub length: Index,
+}
+
+impl Row {
+    /// The number of the row, where its first cell has this number. Where that is the cell's at the
+    /// row's index times the length it is the index, which no law of expressions tells later: that
+    /// product may wrap as a word.
+    pub fn number(self, alloc: Global, first: Index) -> Result<Index, AllocError>
+        ensures { IfOk result (λ i. expression_of i
+            ≡ spec.row_number (row_in self) (expression_of first)) }
+    {
+        let index = self.index.copy(alloc)?;
+        let begin = flat_index(alloc, index, &self.length, Index::Literal(0))?;
+        if same(&first, &begin) {
+            Ok(self.index)
+        } else {
+            Index::binary(alloc, Operation::Quotient, first, self.length)
+        }
+    }
+}
 
 /// A layout, its lengths index expressions.
 #[derive(Drop)]
@@ -48,6 +73,7 @@ pub enum Layout {
 impl Layout {
     /// The layout of a form, of a type over an operand's; any form that is no layout of its own is
     /// taken for transpose, a stride too, which is lowered to three.
+    #[tactic(auto, using(crate::proofs::Shapes::spelled_four))]
     pub fn of_form(
         alloc: Global,
         names: &Names,
@@ -68,6 +94,8 @@ impl Layout {
             UnaryForm::Layout(forms::Layout::Reverse) => {
                 Ok(Layout::Reverse(outer_length(alloc, names, operand)?))
             }
+            UnaryForm::Layout(forms::Layout::AsVector) => Ok(Layout::Split(Index::Literal(4))),
+            UnaryForm::Layout(forms::Layout::AsScalar) => Ok(Layout::Join(Index::Literal(4))),
             UnaryForm::Slide(size, step) => Ok(Layout::Slide {
                 size: *size,
                 step: *step,
@@ -81,32 +109,70 @@ impl Layout {
         }
     }
 
-    /// Makes of indices in the result those in the operand.
-    pub fn to_operand(&self, alloc: Global, indices: &mut IndexStack) -> Result<(), AllocError>
-        ensures { OnOk result (indices_in indices.new
-            ≡ to_operand (layout_in self.now) (indices_in indices.old)) }
+    /// Makes of indices in the result those in the operand. Of rows that are asked for whole, as
+    /// vectors are, the answer is the row, and the indices are those of its first cell.
+    pub fn to_operand(
+        &self,
+        alloc: Global,
+        indices: &mut IndexStack,
+    ) -> Result<Option<Row>, AllocError>
+        ensures row { IfOk result (λ r. option_map row_in r
+            ≡ operand_row (layout_in self.now) (indices_in indices.old)) }
+        ensures indices { OnOk result (indices_in indices.new
+            ≡ operand_asked (layout_in self.now) (indices_in indices.old)) }
     {
         match self {
-            Layout::Split(length) => flatten(alloc, length, indices),
-            Layout::Join(length) => part(alloc, length, indices),
-            Layout::Transpose => swap(indices),
-            Layout::Reverse(length) => turn(alloc, length, indices),
-            Layout::Slide { step, .. } => flatten(alloc, &Index::Literal(*step), indices),
-            Layout::Pad { left, length, .. } => clamp(alloc, *left, length, indices),
+            Layout::Split(length) => gather(alloc, length, indices),
+            Layout::Join(length) => {
+                part(alloc, length, indices)?;
+                Ok(None)
+            }
+            Layout::Transpose => {
+                swap(indices)?;
+                Ok(None)
+            }
+            Layout::Reverse(length) => {
+                turn(alloc, length, indices)?;
+                Ok(None)
+            }
+            Layout::Slide { step, .. } => {
+                flatten(alloc, &Index::Literal(*step), indices)?;
+                Ok(None)
+            }
+            Layout::Pad { left, length, .. } => {
+                clamp(alloc, *left, length, indices)?;
+                Ok(None)
+            }
         }
     }
 
-    /// Makes of indices in the operand those in the result, for join, split, transpose and reverse.
-    pub fn to_result(&self, alloc: Global, indices: &mut IndexStack) -> Result<(), AllocError>
-        ensures { OnOk result (indices_in indices.new
-            ≡ to_result (layout_in self.now) (indices_in indices.old)) }
+    /// Makes of indices in the operand those in the result, for join, split, transpose and reverse;
+    /// of rows that are written whole as for the operand.
+    pub fn to_result(
+        &self,
+        alloc: Global,
+        indices: &mut IndexStack,
+    ) -> Result<Option<Row>, AllocError>
+        ensures row { IfOk result (λ r. option_map row_in r
+            ≡ result_row (layout_in self.now) (indices_in indices.old)) }
+        ensures indices { OnOk result (indices_in indices.new
+            ≡ result_asked (layout_in self.now) (indices_in indices.old)) }
     {
         match self {
-            Layout::Split(length) => part(alloc, length, indices),
-            Layout::Join(length) => flatten(alloc, length, indices),
-            Layout::Transpose => swap(indices),
-            Layout::Reverse(length) => turn(alloc, length, indices),
-            Layout::Slide { .. } | Layout::Pad { .. } => Ok(()),
+            Layout::Split(length) => {
+                part(alloc, length, indices)?;
+                Ok(None)
+            }
+            Layout::Join(length) => gather(alloc, length, indices),
+            Layout::Transpose => {
+                swap(indices)?;
+                Ok(None)
+            }
+            Layout::Reverse(length) => {
+                turn(alloc, length, indices)?;
+                Ok(None)
+            }
+            Layout::Slide { .. } | Layout::Pad { .. } => Ok(None),
         }
     }
 }
@@ -118,7 +184,7 @@ fn inner_length(alloc: Global, names: &Names, ty: &Ty) -> Result<Index, AllocErr
 {
     match ty {
         Ty::Array(rows, _) => outer_length(alloc, names, rows),
-        Ty::Number | Ty::Pair(_, _) => Ok(Index::Literal(0)),
+        Ty::Number | Ty::Vector | Ty::Pair(_, _) => Ok(Index::Literal(0)),
     }
 }
 
@@ -129,7 +195,7 @@ fn outer_length(alloc: Global, names: &Names, ty: &Ty) -> Result<Index, AllocErr
 {
     match ty {
         Ty::Array(_, length) => spelled_length(alloc, length, names),
-        Ty::Number | Ty::Pair(_, _) => Ok(Index::Literal(0)),
+        Ty::Number | Ty::Vector | Ty::Pair(_, _) => Ok(Index::Literal(0)),
     }
 }
 
@@ -144,6 +210,36 @@ fn flatten(alloc: Global, length: &Index, indices: &mut IndexStack) -> Result<()
     match indices.pop() {
         None => indices.push(row),
         Some(column) => indices.push(cell_in_rows(alloc, row, length, column)?),
+    }
+}
+
+// The same, and of the index of a row alone that of its first cell: the answer is the row then.
+fn gather(
+    alloc: Global,
+    length: &Index,
+    indices: &mut IndexStack,
+) -> Result<Option<Row>, AllocError>
+    ensures row { IfOk result (λ r. option_map row_in r
+        ≡ asked_row (expression_of length.now) (indices_in indices.old)) }
+    ensures indices { OnOk result (indices_in indices.new
+        ≡ gathered (expression_of length.now) (indices_in indices.old)) }
+{
+    let Some(row) = indices.pop() else {
+        return Ok(None);
+    };
+    match indices.pop() {
+        None => {
+            let index = row.copy(alloc)?;
+            indices.push(cell_in_rows(alloc, row, length, Index::Literal(0))?)?;
+            Ok(Some(Row {
+                index,
+                length: length.copy(alloc)?,
+            }))
+        }
+        Some(column) => {
+            indices.push(cell_in_rows(alloc, row, length, column)?)?;
+            Ok(None)
+        }
     }
 }
 

@@ -7,6 +7,7 @@
 
 pub mod access;
 pub mod array;
+pub mod count;
 pub mod extent;
 pub mod laws;
 pub mod layout;
@@ -18,6 +19,7 @@ pub mod view;
 
 pub use access::{Access, Cell};
 pub use array::ArrayKind;
+pub use count::{Count, held_count};
 pub use load_set::LoadSet;
 pub use stack::{IndexStack, PairStack};
 pub use view::View;

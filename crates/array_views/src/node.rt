@@ -21,6 +21,8 @@ pub enum Node {
     Nothing,
     /// A private variable, by its number.
     Variable(u32),
+    /// A vector in a private variable of four words, by its number.
+    Vector(u32),
     Placed(Placed),
     /// Both sides of a pair.
     Both(Rc<Node>, Rc<Node>),
@@ -48,6 +50,7 @@ impl Node {
         match self {
             Node::Nothing => Ok(Access::Nothing),
             Node::Variable(number) => Ok(Access::Variable(*number)),
+            Node::Vector(number) => Ok(Access::Vector(*number)),
             Node::Placed(placed) => placed.access(alloc, choices, indices),
             Node::Both(left, right) => match choices.pop() {
                 None => Ok(Access::Nothing),
@@ -63,12 +66,12 @@ impl Node {
                 array.access(alloc, choices, indices)
             }
             Node::Reading(layout, operand) => {
-                layout.to_operand(alloc, indices)?;
-                operand.access(alloc, choices, indices)
+                let row = layout.to_operand(alloc, indices)?;
+                operand.access(alloc, choices, indices)?.in_rows(alloc, row)
             }
             Node::Writing(layout, result) => {
-                layout.to_result(alloc, indices)?;
-                result.access(alloc, choices, indices)
+                let row = layout.to_result(alloc, indices)?;
+                result.access(alloc, choices, indices)?.in_rows(alloc, row)
             }
         }
     }

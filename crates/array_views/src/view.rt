@@ -1,16 +1,16 @@
 //! Views, and how they are made.
 
-ghost use Rattle.std.specs.Prelude.{◌≡◌, ◌+◌, ◌≤◌, ◌<◌, ◌^◌, [], ◌∷◌, IfOk, map};
+ghost use Rattle.std.specs.Prelude.{◌≡◌, ◌+◌, ◌≤◌, ◌^◌, [], ◌∷◌, IfOk, map};
 ghost use Rattle.lift_tree.specs.Types.{ty_of};
 ghost use Rattle.lift_ir.specs.AtLaunch.{layout_of, shape_of, ty_at};
 ghost use Rattle.lift_ir.specs.Lowering.{element_ty};
 ghost use Rattle.lift_ir.specs.Scalars.{by_side};
 ghost use Rattle.lift_ir.specs.Types.{width, IsShort};
-ghost use Rattle.printed_form.specs.Counts.{load_count};
 ghost use Rattle.printed_form.specs.Views as printed;
 ghost use Rattle.index_expr.specs.Expression.{Literal, expression_of};
 ghost use Rattle.array_views.specs.Accesses.{access_at, access_of, cell_alone, sign_of, target_of};
 ghost use Rattle.array_views.specs.Arrays.{array_with, spelled_shape};
+ghost use Rattle.array_views.specs.Counts.{count_of};
 ghost use Rattle.length_spelling.specs.Formulas.{index_formula, length_formula, spelled_length};
 ghost use Rattle.array_views.specs.Stacks.{indices_in};
 ghost use Rattle.array_views.specs.Layouts.{spelled_layout};
@@ -18,6 +18,7 @@ ghost use Rattle.array_views.specs.Views.{Nothing, Placed, plain_of, Both, Compo
 
 use crate::access::{Access, Cell};
 use crate::array::ArrayKind;
+use crate::count::{Count, held_count};
 use crate::extent::Extent;
 use crate::layout::Layout;
 use crate::load_set::LoadSet;
@@ -115,37 +116,36 @@ impl View {
         )
     }
 
-    /// An element in private variables, one a component, the first of which has this number.
-    #[tactic(auto, using(crate::proofs::Shapes::some_width))]
-    pub fn held(alloc: Global, ty: &Ty, first: u32) -> Result<Self, AllocError>
-        requires { first + width (element_ty (ty_of ty.now)) ≤ 2 ^ 32 }
+    /// An element in private variables, one a component, before which there are so many.
+    pub fn held(alloc: Global, ty: &Ty, first: Count) -> Result<Self, AllocError>
         ensures { IfOk result (λ v. view_in v
-            ≡ printed.held_view (element_ty (ty_of ty.now)) first) }
+            ≡ printed.held_view (element_ty (ty_of ty.now)) (count_of first)) }
     {
         match ty {
-            Ty::Number | Ty::Array(_, _) => View::new(alloc, Node::Variable(first)),
+            Ty::Number | Ty::Array(_, _) => View::new(alloc, Node::Variable(first.words)),
+            Ty::Vector => View::new(alloc, Node::Vector(first.fours)),
             Ty::Pair(a, b) => {
                 let left = View::held(alloc, a, first)?;
-                let right = View::held(alloc, b, first + element_width(a))?;
+                let right = View::held(alloc, b, first.more(held_count(a)?)?)?;
                 View::both(alloc, left, right)
             }
         }
     }
 
-    /// An element, once these of its scalars are loaded into private variables, the
-    /// first of which has this number.
-    pub fn loaded(&self, alloc: Global, loads: &LoadSet, first: u32) -> Result<Self, AllocError>
-        requires { first + load_count (loads_of loads.now) < 2 ^ 32 }
+    /// An element, once these of its scalars are loaded into private variables, before which there
+    /// are so many.
+    pub fn loaded(&self, alloc: Global, loads: &LoadSet, first: Count) -> Result<Self, AllocError>
         ensures { IfOk result (λ v. view_in v
-            ≡ printed.loaded_view (loads_of loads.now) (view_in self.now) first) }
+            ≡ printed.loaded_view (loads_of loads.now) (view_in self.now) (count_of first)) }
     {
         match loads {
             LoadSet::Skip => self.share(),
-            LoadSet::Take => View::new(alloc, Node::Variable(first)),
+            LoadSet::Take => View::new(alloc, Node::Variable(first.words)),
+            LoadSet::TakeFour => View::new(alloc, Node::Vector(first.fours)),
             LoadSet::Each(left, right) => {
                 let a = self.component(alloc, false)?.loaded(alloc, left, first)?;
                 let b = self.component(alloc, true)?;
-                let b = b.loaded(alloc, right, first + left.count())?;
+                let b = b.loaded(alloc, right, first.more(left.count()?)?)?;
                 View::both(alloc, a, b)
             }
         }
@@ -195,9 +195,9 @@ impl View {
         ensures plain { IfOk result (λ v. plain_in v
             ≡ Reading (spelled_layout (spelled_length names.now)
             (layout_of form.now (ty_of ty.now) (ty_of operand.now))) (plain_in self.now)) }
-        ensures view { IfOk result (λ v. view_in v ≡ (λ cs is. view_in self.now cs
-            (printed.operand_indices (length_formula names.now)
-            (layout_of form.now (ty_of ty.now) (ty_of operand.now)) is))) }
+        ensures view { IfOk result (λ v. view_in v
+            ≡ printed.reshaped_view (length_formula names.now)
+            (layout_of form.now (ty_of ty.now) (ty_of operand.now)) (view_in self.now)) }
     {
         let layout = Layout::of_form(alloc, names, form, ty, operand)?;
         View::new(alloc, Node::Reading(layout, self.node.clone()?))
@@ -216,9 +216,9 @@ impl View {
         ensures plain { IfOk result (λ v. plain_in v
             ≡ Writing (spelled_layout (spelled_length names.now)
             (layout_of form.now (ty_of ty.now) (ty_of operand.now))) (plain_in self.now)) }
-        ensures view { IfOk result (λ v. view_in v ≡ (λ cs is. view_in self.now cs
-            (printed.result_indices (length_formula names.now)
-            (layout_of form.now (ty_of ty.now) (ty_of operand.now)) is))) }
+        ensures view { IfOk result (λ v. view_in v
+            ≡ printed.rewritten_view (length_formula names.now)
+            (layout_of form.now (ty_of ty.now) (ty_of operand.now)) (view_in self.now)) }
     {
         let layout = Layout::of_form(alloc, names, form, ty, operand)?;
         View::new(alloc, Node::Writing(layout, self.node.clone()?))
@@ -255,16 +255,5 @@ impl View {
             ≡ cell_alone (access_at (plain_in self.now) choices (indices_in indices))) }
     {
         Ok(self.access(alloc, choices, indices)?.into_cell())
-    }
-}
-
-// How many components an element type has.
-fn element_width(ty: &Ty) -> u32
-    requires { width (element_ty (ty_of ty.now)) < 2 ^ 32 }
-    ensures { result ≡ width (element_ty (ty_of ty.now)) }
-{
-    match ty {
-        Ty::Number | Ty::Array(_, _) => 1,
-        Ty::Pair(a, b) => element_width(a) + element_width(b),
     }
 }

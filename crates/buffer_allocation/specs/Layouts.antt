@@ -44,7 +44,7 @@ height_of g (Binary f t u) (Two a n m) = on_both f (height_of g t n) (height_of 
 height_of g (Let v b) (Two a n m) = height_of (height_of g v n ∷ g) b m
 height_of g t n = 0
 
--- the layouts through which writing goes
+-- the layouts through which writing goes; asVector stands in writing position in no legal nest
 abbrev pub is_written_through : UnaryForm → Bool
 is_written_through (Div n) = false
 is_written_through (Rem n) = false

@@ -36,6 +36,7 @@ fn scalars(ty: &Ty, none: &Sizes) -> u64
 {
     match ty {
         Ty::Number | Ty::Pair(_, _) => 1,
+        Ty::Vector => 4,
         Ty::Array(element, length) => {
             length_of(length, none).saturating_mul(scalars(element, none))
         }
@@ -49,7 +50,7 @@ fn add_each(ty: &Ty, number: u64, numbers: &mut Vec<u64>) -> Result<(), AllocErr
         ≡ numbers.old.items ++ replicate (width (ty_of ty.now)) number) }
 {
     match ty {
-        Ty::Number => {
+        Ty::Number | Ty::Vector => {
             numbers.push(number)?;
             Ok(())
         }

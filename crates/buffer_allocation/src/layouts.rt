@@ -1,5 +1,5 @@
 //! How many layouts stand one on another over a buffer: split, join, transpose, reverse, stride,
-//! zip, slide and pad, and first and second of what isn't an element. Each is
+//! asVector, asScalar, zip, slide and pad, and first and second of what isn't an element. Each is
 //! one more operation in an index.
 
 ghost use Rattle.std.specs.Prelude.{◌≡◌, ◌∷◌, get_or, max, reverse, IfOk, OnOk};
@@ -85,6 +85,8 @@ fn is_copy(form: &UnaryForm) -> bool
     }
 }
 
+// Whether writing goes through the form. Of the layouts asVector stands in writing position in no
+// legal nest.
 fn is_written_through(form: &UnaryForm) -> bool
     ensures { result ≡ spec.is_written_through form.now }
 {

@@ -1,5 +1,5 @@
 -- The kernel that is emitted for a term.
-use Rattle.std.proofs.Common.{◌≡◌, ◌∙◌, ◌+◌, ◌*◌, ◌<◌, ◌≤◌, ◌^◌, ℕ, List, [], refl, sym, ap₂, subst, arith, Option, pos, negsuc, ℤ, ◌≤ℤ◌}
+use Rattle.std.proofs.Common.{◌≡◌, ◌∙◌, ◌+◌, ◌*◌, ◌<◌, ◌≤◌, ◌^◌, ℕ, List, [], refl, sym, ap, ap₂, subst, arith, Option, pos, negsuc, ℤ, ◌≤ℤ◌}
 use Rattle.std.specs.Prelude.{nat_abs}
 use Rattle.std.proofs.lemmas.Int.{ints}
 use Rattle.std.proofs.lemmas.Nat.{mul-le}
@@ -9,10 +9,11 @@ use Rattle.size_arith.specs.Ranges.{Admissible, AreNames}
 use Rattle.size_arith.proofs.Soundness.{shown_at_least}
 use Rattle.lift_tree.specs.Annotations.{Annotation, type_in}
 use Rattle.lift_tree.specs.Tree.{Tree}
-use Rattle.lift_tree.specs.Types.{PlainTy, U32, PairOf, ArrayOf, HoldsElements, IsElement, IsFormed, IsOutput}
-use Rattle.lift_tree.specs.Typing.{Declared}
+use Rattle.lift_tree.specs.Types.{PlainTy, U32, U32x4, PairOf, ArrayOf, AreNumbers, HoldsElements, IsFormed, IsOutput}
+use Rattle.lift_tree.specs.Typing.{Declared, constant}
 use Rattle.lift_tree.proofs.Annotated.{annotated_is_typed}
 use Rattle.lift_tree.proofs.Formed.{formed}
+use Rattle.lift_tree.proofs.Sizes.{value-constant}
 use Rattle.kernel_tree.specs.Code.{Kernel}
 use Rattle.lift_ir.specs.AtLaunch.{length_at, natural, shape_of}
 use Rattle.lift_ir.specs.Types as ir
@@ -49,6 +50,7 @@ kernel_of_plan l sound local plan fixed same law told k is =
 
 same_width : (a : PlainTy) → lists.width a ≡ ir.width (shape_of a)
 same_width U32 = refl
+same_width U32x4 = refl
 same_width (PairOf a b) = ap₂ (λ m n. m + n) (same_width a) (same_width b)
 same_width (ArrayOf a n) = same_width a
 
@@ -64,21 +66,30 @@ module _ (names : List Name) (ys : List ℕ) (are : AreNames names) (ok : Admiss
   not_empty (pos n) h = omega (arith, ints, h)
   not_empty (negsuc n) h = omega arith
 
+  -- a vector has four scalars
+  four_long : length_at ys (constant 4) ≡ 4
+  four_long = ap natural (value-constant ys 4)
+
   some : (a : PlainTy) → IsFormed names a → 1 ≤ size (Sized a)
   some U32 h = omega arith
+  some U32x4 h = let four = four_long in omega (arith, four)
   some (PairOf a b) h = omega arith
   some (ArrayOf a n) h = mul-le 1 1 (length_at ys n) (size (Sized a)) (not_empty (value_at ys n) (shown_at_least names ys are ok 1 n h.0)) (some a h.1)
 
-  element_small : (count : ℕ) (a : PlainTy) → IsElement a → count ≤ 2 ^ 32 → IsSmall ys count a
-  element_small count U32 e h = h
-  element_small count (PairOf a b) e h = (element_small count a e.0 h, element_small count b e.1 h)
-  element_small count (ArrayOf a n) e h = absurd e
+  numbers_small : (count : ℕ) (a : PlainTy) → AreNumbers a → count ≤ 2 ^ 32 → IsSmall ys count a
+  numbers_small count U32 e h = h
+  numbers_small count U32x4 e h = absurd e
+  numbers_small count (PairOf a b) e h = (numbers_small count a e.0 h, numbers_small count b e.1 h)
+  numbers_small count (ArrayOf a n) e h = absurd e
 
   small_of : (count : ℕ) (a : PlainTy) → HoldsElements a → IsFormed names a → IsShort (Sized a) → count * size (Sized a) < 2 ^ 31 → IsSmall ys count a
   small_of count U32 elements formed short small = omega (arith, small)
+  small_of count U32x4 elements formed short small =
+      let all : count * size (Sized U32x4) ≡ count * 4 = ap (λ n. count * (n * 1)) four_long in
+      omega (arith, all, small)
   small_of count (PairOf a b) elements formed short small =
       let few : count ≤ 2 ^ 32 = omega (arith, small) in
-      (element_small count a elements.0 few, element_small count b elements.1 few)
+      (numbers_small count a elements.0 few, numbers_small count b elements.1 few)
   small_of count (ArrayOf a n) elements formed short small =
       let long = length_at ys n in
       let low : long < 2 ^ 32 = (let h = short.0 in omega (arith, h)) in
@@ -89,6 +100,7 @@ module _ (names : List Name) (ys : List ℕ) (are : AreNames names) (ok : Admiss
 
 holds_elements : (a : PlainTy) → IsOutput a → HoldsElements a
 holds_elements U32 h = absurd h
+holds_elements U32x4 h = absurd h
 holds_elements (PairOf a b) h = absurd h
 holds_elements (ArrayOf a n) h = h
 

@@ -36,6 +36,7 @@ fn short_size(alloc: Global, ty: &Ty) -> Option<u64>
 {
     match ty {
         Ty::Number => Some(1),
+        Ty::Vector => Some(4),
         Ty::Pair(a, b) => {
             short_size(alloc, a)?;
             short_size(alloc, b)?;
@@ -75,6 +76,8 @@ pub fn has_short_copies(alloc: Global, term: &Term) -> bool
         | Term::Source(_)
         | Term::Apply(_, _, _)
         | Term::ApplyNumber(_, _, _)
+        | Term::ApplyLanes { .. }
+        | Term::DivideLanes(_, _, _)
         | Term::Select(_, _, _)
         | Term::Store(_, _) => true,
     }

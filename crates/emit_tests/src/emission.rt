@@ -6,6 +6,7 @@ ghost use Rattle.item_emit.specs.Copies.{HasShortCopies};
 use crate::copies::has_short_copies;
 use crate::last_terms::{LoweredLast, lowered_last};
 use crate::sameness::is_same;
+use array_views::Count;
 use barrier_placement::Barrier;
 use buffer_allocation::copies::{Memory, copy_lengths};
 use group_emit::counts::phase_count;
@@ -45,7 +46,7 @@ fn items_code(alloc: Global, lowered: &Lowered, term: &Term) -> Result<Vec<Stmt>
         depth: 0,
         scope: &Scope::Empty,
         array: 0,
-        variable: 0,
+        variable: Count::none(),
     };
     let mut block = Block::new(alloc);
     put_written(alloc, &declared, &site, term, &target, &mut block)?;
@@ -84,8 +85,8 @@ fn are_equal(lengths: &[u64], words: &[u32]) -> bool {
             .all(|(length, word)| *length == u64::from(*word))
 }
 
-// Whether the kernel declares what is counted for the term, and no variable of four words, and asks
-// for groups of the size that is fixed.
+// Whether the kernel declares what is counted for the term, and asks for groups of the size that is
+// fixed.
 fn declares(
     alloc: Global,
     kernel: &Kernel,
@@ -101,7 +102,7 @@ fn declares(
             && counts.outputs == kernel.outputs
             && counts.sizes == kernel.sizes
             && counts.variables == kernel.variables
-            && kernel.vectors == 0
+            && counts.vectors == kernel.vectors
             && kernel.local == local
             && are_equal(&locals, &kernel.locals)
             && are_equal(&privates, &kernel.privates),

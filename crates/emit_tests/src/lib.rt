@@ -37,6 +37,8 @@ mod tidied;
 #[cfg(test)]
 mod tiles;
 #[cfg(test)]
+mod vectors;
+#[cfg(test)]
 mod work_groups;
 #[cfg(test)]
 mod writing;

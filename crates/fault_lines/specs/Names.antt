@@ -48,6 +48,7 @@ nest_rule_name nest.N11 = codes "N11"
 nest_rule_name nest.N12 = codes "N12"
 nest_rule_name nest.N13 = codes "N13"
 nest_rule_name nest.N14 = codes "N14"
+nest_rule_name nest.N15 = codes "N15"
 
 -- the name of a limit on a term's arrays
 abbrev pub alloc_limit_name : AllocLimit → List ℕ

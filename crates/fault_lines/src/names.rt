@@ -73,6 +73,7 @@ pub fn nest_rule_name(rule: NestRule) -> &'static [u8]
         NestRule::N12 => b"N12".as_slice(),
         NestRule::N13 => b"N13".as_slice(),
         NestRule::N14 => b"N14".as_slice(),
+        NestRule::N15 => b"N15".as_slice(),
     }
 }
 

@@ -65,7 +65,7 @@ const ILL_TYPED: &[(&str, Rule, &[u32])] = &[
     ("slide(3, 2, xs)", Rule::Slide, &[]),
     ("slide(5, 1, xs)", Rule::Slide, &[]),
     ("pad(1, 2, 0)", Rule::Pad, &[]),
-    // the pairs of an output hold elements only, in an array of arrays too
+    // the pairs of an output hold numbers only, in an array of arrays too
     ("zip(rows, rows)", Rule::Output, &[]),
     ("map(\\row. zip(rows, rows), rows)", Rule::Output, &[]),
     // the first fault counts
@@ -210,6 +210,8 @@ fn without<'w>(ty: &Ty, want: &'w [i128]) -> Option<&'w [i128]> {
     let (first, rest) = want.split_first()?;
     match ty {
         Ty::Number => (*first == U32).then_some(rest),
+        // no program has it
+        Ty::Vector => None,
         Ty::Pair(a, b) => {
             if *first == PAIR {
                 without(b, without(a, rest)?)

@@ -8,10 +8,11 @@ ghost use Rattle.kernel_tree.specs.Code.{FromGroupId, ByGroupCount};
 ghost use Rattle.kernel_tree.specs.Tree.{formula_of};
 ghost use Rattle.length_spelling.specs.Turns.{number_of, turn_formula};
 ghost use Rattle.lift_ir.specs.Terms.{push};
-ghost use Rattle.printed_form.specs.Counts.{load_count};
+ghost use Rattle.printed_form.specs.Counts.{load_count, no_variables};
 ghost use Rattle.printed_form.specs.MapForms.{form_over_groups};
 ghost use Rattle.printed_form.specs.Printer.{print_loaded};
 ghost use Rattle.printed_form.specs.Views.{loaded_view};
+ghost use Rattle.array_views.specs.Counts.{count_of};
 ghost use Rattle.array_views.specs.Views.{view_in};
 ghost use Rattle.lowering.specs.Terms.{load_set_of, map_of, term_of};
 ghost use Rattle.item_emit.specs.Blocks.{code_in};
@@ -21,7 +22,7 @@ ghost use Rattle.group_emit.specs.Settings.{fence_in, inputs_of, spell_of};
 ghost use Rattle.grid_emit.specs.Settings.{grid_forms_in};
 
 use crate::statements::put_written;
-use array_views::View;
+use array_views::{Count, View};
 use group_emit::counts::{Used, phases_in};
 use group_emit::setting::Setting;
 use group_emit::statements::Site;
@@ -37,12 +38,12 @@ use lowering::term::{Map, Space, Term};
 use std::alloc::{AllocError, Global};
 
 /// Where a map over the groups of a row stands: within so many loops, with these binders in scope,
-/// and with the number of the first private variable that isn't taken.
+/// and with so many private variables taken.
 #[derive(Clone, Copy)]
 struct Row<'s> {
     depth: u32,
     scope: &'s Scope<'s>,
-    variable: u32,
+    variable: Count,
 }
 
 // A turn of a map over groups along a dimension: of its `if` where `once`, else of its loop, which
@@ -100,7 +101,7 @@ fn group_turn(
     requires { HasShortCopies (term_of map.now.body) }
     ensures { IfOk result (λ b. code_in b ≡ printer.print_grid_turn (spell_of setting.now)
         (grid_forms_in setting.now) (inputs_of setting.now) (fence_in setting.now) row.now.depth
-        (scope_of row.now.scope.now) row.now.variable (load_set_of map.now.loads)
+        (scope_of row.now.scope.now) (count_of row.now.variable) (load_set_of map.now.loads)
         (view_in element.now) (term_of map.now.body) (view_in target.now)) }
 {
     let bound = loaded(alloc, &map.loads, element, row.variable)?;
@@ -110,7 +111,7 @@ fn group_turn(
         used: Used {
             locals: 0,
             privates: 0,
-            variables: plus(row.variable, load_count(&map.loads)?)?,
+            variables: row.variable.more(load_count(&map.loads)?)?,
             phases: 0,
         },
     };
@@ -132,7 +133,8 @@ fn row_statement(
     requires { HasShortCopies (map_of map.now) }
     ensures { IfOk result (λ b. code_in b ≡ printer.print_along_groups (spell_of setting.now)
         (grid_forms_in setting.now) (inputs_of setting.now) (fence_in setting.now) row.now.depth
-        (scope_of row.now.scope.now) row.now.variable (map_of map.now) (view_in target.now)) }
+        (scope_of row.now.scope.now) (count_of row.now.variable) (map_of map.now)
+        (view_in target.now)) }
 {
     let once = setting.is_over_one(Dimension::X, &map.length);
     let turn = turn_over_groups(once, Dimension::X, row.depth);
@@ -166,7 +168,8 @@ fn along_groups(
     requires { HasShortCopies (term_of term.now) }
     ensures { IfOk result (λ b. code_in b ≡ printer.print_along_groups (spell_of setting.now)
         (grid_forms_in setting.now) (inputs_of setting.now) (fence_in setting.now) row.now.depth
-        (scope_of row.now.scope.now) row.now.variable (term_of term.now) (view_in target.now)) }
+        (scope_of row.now.scope.now) (count_of row.now.variable) (term_of term.now)
+        (view_in target.now)) }
 {
     match term {
         Term::Reshape(layout, a) => {
@@ -180,6 +183,8 @@ fn along_groups(
         | Term::Source(_)
         | Term::Apply(_, _, _)
         | Term::ApplyNumber(_, _, _)
+        | Term::ApplyLanes { .. }
+        | Term::DivideLanes(_, _, _)
         | Term::Select(_, _, _)
         | Term::Pair(_, _)
         | Term::Zip(_, _)
@@ -205,20 +210,21 @@ fn row_turn(
 ) -> Result<Block, AllocError>
     requires { HasShortCopies (term_of map.now.body) }
     ensures { IfOk result (λ b. let loads = load_set_of map.now.loads in
-        code_in b ≡ print_loaded loads (view_in element.now) 0
+        code_in b ≡ print_loaded loads (view_in element.now) no_variables
         (printer.print_along_groups (spell_of setting.now) (grid_forms_in setting.now)
         (inputs_of setting.now) (fence_in setting.now) depth
-        (push (loaded_view loads (view_in element.now) 0) (scope_of scope.now)) (load_count loads)
+        (push (loaded_view loads (view_in element.now) no_variables) (scope_of scope.now))
+        (load_count loads)
         (term_of map.now.body) (view_in target.now))) }
 {
-    let bound = loaded(alloc, &map.loads, element, 0)?;
+    let bound = loaded(alloc, &map.loads, element, Count::none())?;
     let row = Row {
         depth,
         scope: &Scope::Bound(&bound, scope),
         variable: load_count(&map.loads)?,
     };
     let mut turn = along_groups(alloc, setting, &row, &map.body, target)?;
-    put_loaded(alloc, &map.loads, element, 0, &mut turn)?;
+    put_loaded(alloc, &map.loads, element, Count::none(), &mut turn)?;
     Ok(turn)
 }
 
@@ -282,6 +288,8 @@ pub fn grid(
         | Term::Source(_)
         | Term::Apply(_, _, _)
         | Term::ApplyNumber(_, _, _)
+        | Term::ApplyLanes { .. }
+        | Term::DivideLanes(_, _, _)
         | Term::Select(_, _, _)
         | Term::Pair(_, _)
         | Term::Zip(_, _)

@@ -9,6 +9,7 @@ ghost use Rattle.kernel_tree.specs.Code.{End, FromLocalId};
 ghost use Rattle.kernel_tree.specs.declared.tree.Dimension.TheVariants.{Y};
 ghost use Rattle.length_spelling.specs.Turns.{number_of, turn_formula};
 ghost use Rattle.lift_ir.specs.Terms as terms;
+ghost use Rattle.array_views.specs.Counts.{count_of};
 ghost use Rattle.array_views.specs.Views.{view_in};
 ghost use Rattle.lowering.specs.Terms.{load_set_of, map_of, term_of};
 ghost use Rattle.item_emit.specs.Blocks.{code_in};
@@ -47,7 +48,8 @@ fn put_row_map(
     ensures { OnOk result (code_in block.new ≡ printer.print_along_row (spell_of setting.now)
         (grid_forms_in setting.now) (inputs_of setting.now) (fence_in setting.now) site.now.depth
         (scope_of site.now.scope.now) site.now.used.locals site.now.used.privates
-        site.now.used.variables (map_of map.now) (view_in target.now) (code_in block.old)) }
+        (count_of site.now.used.variables) (map_of map.now) (view_in target.now)
+        (code_in block.old)) }
 {
     let array = site.argument(alloc, setting, &map.array)?;
     let after = Site {
@@ -70,7 +72,8 @@ fn put_along_row(
     ensures { OnOk result (code_in block.new ≡ printer.print_along_row (spell_of setting.now)
         (grid_forms_in setting.now) (inputs_of setting.now) (fence_in setting.now) site.now.depth
         (scope_of site.now.scope.now) site.now.used.locals site.now.used.privates
-        site.now.used.variables (term_of term.now) (view_in target.now) (code_in block.old)) }
+        (count_of site.now.used.variables) (term_of term.now) (view_in target.now)
+        (code_in block.old)) }
 {
     match term {
         Term::Reshape(layout, a) => {
@@ -84,6 +87,8 @@ fn put_along_row(
         | Term::Source(_)
         | Term::Apply(_, _, _)
         | Term::ApplyNumber(_, _, _)
+        | Term::ApplyLanes { .. }
+        | Term::DivideLanes(_, _, _)
         | Term::Select(_, _, _)
         | Term::Pair(_, _)
         | Term::Zip(_, _)
@@ -135,7 +140,7 @@ fn put_row(
         depth: depth_in(form, site.depth)?,
         scope: &Scope::Bound(&bound, site.scope),
         used: Used {
-            variables: plus(first_load, load_count(&map.loads)?)?,
+            variables: first_load.more(load_count(&map.loads)?)?,
             ..site.used
         },
     };
@@ -321,6 +326,8 @@ fn put_argument(
         | Term::Source(_)
         | Term::Apply(_, _, _)
         | Term::ApplyNumber(_, _, _)
+        | Term::ApplyLanes { .. }
+        | Term::DivideLanes(_, _, _)
         | Term::Select(_, _, _)
         | Term::LetElement(_, _, _)
         | Term::Map(_)
@@ -358,6 +365,8 @@ pub fn put_written(
         | Term::Source(_)
         | Term::Apply(_, _, _)
         | Term::ApplyNumber(_, _, _)
+        | Term::ApplyLanes { .. }
+        | Term::DivideLanes(_, _, _)
         | Term::Select(_, _, _)
         | Term::Pair(_, _)
         | Term::Zip(_, _)

@@ -7,6 +7,7 @@ ghost use Rattle.group_form.specs.Uses as uses;
 ghost use Rattle.lowering.specs.Terms.{term_of};
 ghost use Rattle.group_emit.specs.Used.{used_of};
 
+use array_views::Count;
 use item_emit::counts::{local_count, plus, private_count, variable_count};
 use lowering::term::Term;
 use std::alloc::AllocError;
@@ -28,6 +29,8 @@ pub fn phases_in(term: &Term) -> Result<u32, AllocError>
         | Term::Source(_)
         | Term::Apply(_, _, _)
         | Term::ApplyNumber(_, _, _)
+        | Term::ApplyLanes { .. }
+        | Term::DivideLanes(_, _, _)
         | Term::Select(_, _, _)
         | Term::LetElement(_, _, _)
         | Term::Fold(_)
@@ -47,6 +50,8 @@ pub fn phase_count(term: &Term) -> Result<u32, AllocError>
         | Term::Source(_)
         | Term::Apply(_, _, _)
         | Term::ApplyNumber(_, _, _)
+        | Term::ApplyLanes { .. }
+        | Term::DivideLanes(_, _, _)
         | Term::Select(_, _, _)
         | Term::Pair(_, _)
         | Term::Zip(_, _)
@@ -65,7 +70,7 @@ pub fn phase_count(term: &Term) -> Result<u32, AllocError>
 pub struct Used {
     pub locals: u32,
     pub privates: u32,
-    pub variables: u32,
+    pub variables: Count,
     pub phases: u32,
 }
 
@@ -78,7 +83,7 @@ impl Used {
         Ok(Used {
             locals: plus(self.locals, local_count(term)?)?,
             privates: plus(self.privates, private_count(term)?)?,
-            variables: plus(self.variables, variable_count(term)?)?,
+            variables: self.variables.more(variable_count(term)?)?,
             phases: plus(self.phases, phases_in(term)?)?,
         })
     }

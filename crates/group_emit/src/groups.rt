@@ -17,7 +17,7 @@ ghost use Rattle.group_emit.specs.Settings.{fence_in, forms_in, inputs_of, spell
 use crate::counts::{Used, phases_in};
 use crate::setting::Setting;
 use crate::statements::{Site, put_written};
-use array_views::View;
+use array_views::{Count, View};
 use item_emit::accesses::{loaded, put_loaded};
 use item_emit::arguments::argument;
 use item_emit::block::Block;
@@ -87,7 +87,7 @@ fn group_turn(
         (scope_of scope.now) (load_set_of map.now.loads) (view_in element.now)
         (term_of map.now.body) (view_in target.now)) }
 {
-    let bound = loaded(alloc, &map.loads, element, 0)?;
+    let bound = loaded(alloc, &map.loads, element, Count::none())?;
     let site = Site {
         depth,
         scope: &Scope::Bound(&bound, scope),
@@ -101,7 +101,7 @@ fn group_turn(
     let mut turn = Block::new(alloc);
     setting.put_barrier(phases_in(&map.body)?, &mut turn)?;
     put_written(alloc, setting, &site, &map.body, target, &mut turn)?;
-    put_loaded(alloc, &map.loads, element, 0, &mut turn)?;
+    put_loaded(alloc, &map.loads, element, Count::none(), &mut turn)?;
     Ok(turn)
 }
 
@@ -165,6 +165,8 @@ pub fn groups(
         | Term::Source(_)
         | Term::Apply(_, _, _)
         | Term::ApplyNumber(_, _, _)
+        | Term::ApplyLanes { .. }
+        | Term::DivideLanes(_, _, _)
         | Term::Select(_, _, _)
         | Term::Pair(_, _)
         | Term::Zip(_, _)

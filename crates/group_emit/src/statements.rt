@@ -111,7 +111,7 @@ fn put_local_turn(
         depth: depth_in(form, site.depth)?,
         scope: &Scope::Bound(&bound, site.scope),
         array: site.used.privates,
-        variable: plus(first_load, load_count(&map.loads)?)?,
+        variable: first_load.more(load_count(&map.loads)?)?,
     };
     let target = item::at_turn(alloc, target, turn)?;
     item::put_written(alloc, &setting.declared, &inner, &map.body, &target, block)?;
@@ -294,6 +294,8 @@ pub fn put_argument(
         | Term::Source(_)
         | Term::Apply(_, _, _)
         | Term::ApplyNumber(_, _, _)
+        | Term::ApplyLanes { .. }
+        | Term::DivideLanes(_, _, _)
         | Term::Select(_, _, _)
         | Term::LetElement(_, _, _)
         | Term::Map(_)
@@ -331,6 +333,8 @@ pub fn put_written(
         | Term::Source(_)
         | Term::Apply(_, _, _)
         | Term::ApplyNumber(_, _, _)
+        | Term::ApplyLanes { .. }
+        | Term::DivideLanes(_, _, _)
         | Term::Select(_, _, _)
         | Term::Pair(_, _)
         | Term::Zip(_, _)

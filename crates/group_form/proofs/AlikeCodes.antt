@@ -8,7 +8,7 @@ use Rattle.barrier_placement.specs.Fencing.{Fencing, Open, Fenced}
 use Rattle.lift_ir.specs.Terms.{LoadSet, Kind, WorkGroup, Local, LocalMemory, Term, Bound, Source, Both, Project, Reshape, LetArray, Map, Copy, push}
 use Rattle.lift_ir.specs.Scalars.{at_index}
 use Rattle.lift_ir.specs.Layouts.{result_position}
-use Rattle.printed_form.specs.Counts.{load_count, local_count}
+use Rattle.printed_form.specs.Counts.{Count, more, no_variables, load_count, local_count}
 use Rattle.printed_form.specs.Form.{start_of, stride_of, IsTurnOf, IsLength, IsLoaded, argument_marks}
 use Rattle.printed_form.specs.MapForms.{MapForm, Looped, Guarded, Alone, MapForms, TurnCode, form_over_groups, statement_over_groups, variables_in, AreTurns}
 use Rattle.printed_form.specs.Marks.{Marks, laid_in, loaded_marks}
@@ -33,7 +33,7 @@ module _ (l : Launch) (item : ℕ) where
       go (Fenced on_local on_global) = ((refl, refl, refl), h)
 
   module _ (ins : ℕ → Marks) where
-    pub loaded : (ts : List ℕ) (loads : LoadSet) (e : Marks) (n : ℕ) (a b c d : Code) → IsLoaded l item ins ts loads e n a c → IsLoaded l item ins ts loads e n b d → Alike true l item ts c d → Alike true l item ts a b
+    pub loaded : (ts : List ℕ) (loads : LoadSet) (e : Marks) (n : Count) (a b c d : Code) → IsLoaded l item ins ts loads e n a c → IsLoaded l item ins ts loads e n b d → Alike true l item ts c d → Alike true l item ts a b
     loaded = alike_loaded true l item ins
 
     -- a map in a form, of which the item takes a turn where it is the turn alone
@@ -64,7 +64,7 @@ module _ (l : Launch) (item : ℕ) where
         local_map env u len loads marks t w a b c d x y h =
             in_turns (forms.local len) around Local (num len) _ a b c d (takes_its_turn len) (x item i here it own) (y item i here it own)
             (λ us j p q m k r s rest. loaded us loads (at_index j (marks i)) u.variables p q r.0 s.0 r.1 s.1
-            (alike_written true l item ins num t us (push (loaded_marks loads (at_index j (marks i)) u.variables) (env i)) u.privates (u.variables + load_count loads) (at_index j (w i)) r.0 s.0 m k r.2 s.2 rest))
+            (alike_written true l item ins num t us (push (loaded_marks loads (at_index j (marks i)) u.variables) (env i)) u.privates (more u.variables (load_count loads)) (at_index j (w i)) r.0 s.0 m k r.2 s.2 rest))
             h
 
         mutual
@@ -97,8 +97,8 @@ module _ (l : Launch) (item : ℕ) where
       turn : (outer : MapForm) (turns i : ℕ) (env : ℕ → Marks) (loads : LoadSet) (marks : Marks) (t : Term A) (w : Marks) (a b : Code) → i < turns → IsTurnOf l item WorkGroup i → ((q : ℕ) → q ≤ phases_in t → one q ≡ other q)
           → IsGroupTurn num forms l ins one outer turns env loads marks t w a → IsGroupTurn num forms l ins other outer turns env loads marks t w b → Alike true l item (variables_in outer [] i) a b
       turn outer turns i env loads marks t w a b it own same x y =
-          loaded (variables_in outer [] i) loads (at_index i marks) 0 a b x.0 y.0 (x.2 item i here it own) (y.2 item i here it own)
-          (written outer (phases_in t) same turns i it own t (λ j. push (loaded_marks loads (at_index j marks) 0) env) (record { locals = 0; privates = 0; variables = load_count loads; phases = 0 }) (λ j. at_index j w) x.0 y.0 x.1 y.1 (omega arith) x.3 y.3
+          loaded (variables_in outer [] i) loads (at_index i marks) no_variables a b x.0 y.0 (x.2 item i here it own) (y.2 item i here it own)
+          (written outer (phases_in t) same turns i it own t (λ j. push (loaded_marks loads (at_index j marks) no_variables) env) (record { locals = 0; privates = 0; variables = load_count loads; phases = 0 }) (λ j. at_index j w) x.0 y.0 x.1 y.1 (omega arith) x.3 y.3
           (past (variables_in outer [] i) (one (phases_in t)) (other (phases_in t)) x.1 y.1 End End (same (phases_in t) (omega arith)) x.4 y.4 tt))
 
       -- the map over groups: a loop, or an `if`

@@ -6,7 +6,7 @@ use Rattle.kernel_tree.specs.Code.{Array, Local as LocalArray}
 use Rattle.lift_ir.specs.Types.{width, size}
 use Rattle.lift_ir.specs.Forms.{Stands, StandsAlongRow, StandsOverLaunch}
 use Rattle.lift_ir.specs.Terms.{Global, GlobalRows, Local, Sequential, Space, LocalMemory, PrivateMemory, Term, Bound, Source, Both, Project, Reshape, LetArray, LetElement, Map, Fold, Store, Copy}
-use Rattle.printed_form.specs.Counts.{variable_count, private_count, copy_lengths, local_count}
+use Rattle.printed_form.specs.Counts.{private_count, copy_lengths, local_count}
 use Rattle.printed_form.proofs.Lengths.{AreLong, joined, long_left, long_right}
 use Rattle.group_form.specs.Forms.{StandsInGroup, IsOfInputs}
 use Rattle.group_form.specs.Whole.{DeclaresLocals}
@@ -95,15 +95,6 @@ inputs_no_copies s (Project z a) f = inputs_no_copies s a f
 inputs_no_copies s (Reshape y a) f = inputs_no_copies s a f
 inputs_no_copies s (LetArray v b) f = both_empty (copy_lengths s v) (copy_lengths s b) (inputs_no_copies s v f.0) (inputs_no_copies s b f.1)
 inputs_no_copies s _ f = absurd (assumption)
-
-pub inputs_no_variables : {A : Type 0} (t : Term A) → IsOfInputs t → variable_count t ≡ 0
-inputs_no_variables (Bound v) f = refl
-inputs_no_variables (Source v) f = refl
-inputs_no_variables (Both true a b) f = let x = inputs_no_variables a f.0 in let y = inputs_no_variables b f.1 in omega arith
-inputs_no_variables (Project z a) f = inputs_no_variables a f
-inputs_no_variables (Reshape y a) f = inputs_no_variables a f
-inputs_no_variables (LetArray v b) f = let x = inputs_no_variables v f.0 in let y = inputs_no_variables b f.1 in omega arith
-inputs_no_variables _ f = absurd (assumption)
 
 pub inputs_no_privates : {A : Type 0} (t : Term A) → IsOfInputs t → private_count t ≡ 0
 inputs_no_privates (Bound v) f = refl

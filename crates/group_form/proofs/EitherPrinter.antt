@@ -15,9 +15,9 @@ use Rattle.group_form.proofs.GridAlikeTheorem.{grids_go_alike}
 use Rattle.group_form.proofs.GridPrograms as grids
 
 pub kernels_are_printed : ProgramsArePrinted → GroupPrinterPrints (List Monomial) → GridPrinterPrints (List Monomial) → KernelsArePrinted
-kernels_are_printed single prints over OfItems d asks bases t a l spell fence program launch staged stands placed spelled needed = single d asks bases t a l spell program launch staged stands placed spelled
-kernels_are_printed single prints over OfGroups d asks bases t a l spell fence program launch staged stands placed spelled needed = groups.groups_are_printed prints d asks bases t a l spell fence program launch staged stands placed spelled needed
-kernels_are_printed single prints over OfGrids d asks bases t a l spell fence program launch staged stands placed spelled needed = grids.grids_are_printed over d asks bases t a l spell fence program launch staged stands placed spelled needed
+kernels_are_printed single prints over OfItems d asks bases t a l spell fence program launch staged stands fours placed spelled needed = single d asks bases t a l spell program launch staged stands fours placed spelled
+kernels_are_printed single prints over OfGroups d asks bases t a l spell fence program launch staged stands fours placed spelled needed = groups.groups_are_printed prints d asks bases t a l spell fence program launch staged stands fours placed spelled needed
+kernels_are_printed single prints over OfGrids d asks bases t a l spell fence program launch staged stands fours placed spelled needed = grids.grids_are_printed over d asks bases t a l spell fence program launch staged stands fours placed spelled needed
 
 pub kernels_start : PrintedProgramsStart → KernelsStart
 kernels_start start OfItems d asks w t a l k c program stands ok launch buffers printed = start d asks w t a l k c program ok launch buffers printed

@@ -9,7 +9,7 @@ use Rattle.lift_ir.specs.Types.{Ty, PairOf, ArrayOf}
 use Rattle.lift_ir.specs.Layouts.{operand_position, result_position}
 use Rattle.lift_ir.specs.Terms.{WorkGroup, Local, LocalMemory, Term, Bound, Source, Both, Project, Reshape, LetArray, Map, Copy, push, HasType}
 use Rattle.lift_ir.specs.Scalars.{at_index}
-use Rattle.printed_form.specs.Counts.{load_count, local_count}
+use Rattle.printed_form.specs.Counts.{more, no_variables, load_count, local_count}
 use Rattle.printed_form.specs.Marks.{Marks, loaded_marks}
 use Rattle.printed_form.specs.Form.{IsTurnOf, IsLoaded, IsWritten}
 use Rattle.printed_form.specs.MapForms.{form_over_groups, variables_in, AreTurns}
@@ -83,7 +83,7 @@ module _ {A : Type 0} (num : A → ℕ) (l : Launch) (c : Cells) (wanted : List 
       (item i : ℕ) → item < item_count l → i < b.turns → IsTurnOf l item WorkGroup i
       → AreTurns l item b.ins s.phase.form Local (variables_in (form_over_groups b.once) [] i) s.phase.len
       (λ ts j body last. (inner : Code) × IsLoaded l item b.ins ts s.phase.loads (at_index j (s.marks i)) s.phase.variables body inner
-      × IsWritten l item b.ins num ts (push (loaded_marks s.phase.loads (at_index j (s.marks i)) s.phase.variables) (s.env i)) s.phase.privates (s.phase.variables + load_count s.phase.loads) s.phase.body (at_index j (goes_to b.out i s)) inner last)
+      × IsWritten l item b.ins num ts (push (loaded_marks s.phase.loads (at_index j (s.marks i)) s.phase.variables) (s.env i)) s.phase.privates (more s.phase.variables (load_count s.phase.loads)) s.phase.body (at_index j (goes_to b.out i s)) inner last)
       code rest
 
   mutual
@@ -172,8 +172,8 @@ module _ {A : Type 0} (num : A → ℕ) (l : Launch) (c : Cells) (wanted : List 
   from_between q (suc m) code last x y = let e : suc q + suc m ≡ suc (suc q) + m = omega arith in (x.0, x.1, x.2, x.3, from_between (suc q) m x.1 last x.4 (subst (λ z. IsPast (fence z) last End) e y))
 
   -- with the loads of the turn's scalars
-  pub are_phases : (m : ℕ) (body first last : Code) → fence 0 ≡ Open → 0 < m → ((item i : ℕ) → item < item_count l → i < b.turns → IsTurnOf l item WorkGroup i → IsLoaded l item b.ins (variables_in (form_over_groups b.once) [] i) b.top.loads (b.top.marks i) 0 body first) → Between 0 m first last → IsPast (fence m) last End → ArePhases fence (IsPhase num l p) 0 m body
+  pub are_phases : (m : ℕ) (body first last : Code) → fence 0 ≡ Open → 0 < m → ((item i : ℕ) → item < item_count l → i < b.turns → IsTurnOf l item WorkGroup i → IsLoaded l item b.ins (variables_in (form_over_groups b.once) [] i) b.top.loads (b.top.marks i) no_variables body first) → Between 0 m first last → IsPast (fence m) last End → ArePhases fence (IsPhase num l p) 0 m body
   are_phases zero body first last none some loads x y = absurd (omega arith)
   are_phases (suc m) body first last none some loads x y =
       let same : first ≡ x.0 = subst (λ z. IsPast z first x.0) none x.2 in
-      (body, x.1, subst (λ z. IsPast z body body) (sym none) refl, (x.0, (λ item i jl il own. subst (λ z. IsLoaded l item b.ins (variables_in (form_over_groups b.once) [] i) b.top.loads (b.top.marks i) 0 body z) same (loads item i jl il own)), x.3), from_between 0 m x.1 last x.4 (let e : suc m ≡ 1 + m = omega arith in subst (λ z. IsPast (fence z) last End) e y))
+      (body, x.1, subst (λ z. IsPast z body body) (sym none) refl, (x.0, (λ item i jl il own. subst (λ z. IsLoaded l item b.ins (variables_in (form_over_groups b.once) [] i) b.top.loads (b.top.marks i) no_variables body z) same (loads item i jl il own)), x.3), from_between 0 m x.1 last x.4 (let e : suc m ≡ 1 + m = omega arith in subst (λ z. IsPast (fence z) last End) e y))

@@ -11,7 +11,7 @@ use Rattle.lift_ir.specs.Terms.{LoadSet, WorkGroup, Local, WorkGroupRows, LocalR
 use Rattle.lift_ir.specs.Scalars.{at_index}
 use Rattle.lift_ir.specs.Layouts.{result_position}
 use Rattle.printed_form.specs.Arguments.{marks_in, local_arrays}
-use Rattle.printed_form.specs.Counts.{load_count, variable_count, private_count, local_count}
+use Rattle.printed_form.specs.Counts.{Count, more, no_variables, load_count, variable_count, private_count, local_count}
 use Rattle.printed_form.specs.Form.{IsTurn, IsLength, argument_marks}
 use Rattle.printed_form.specs.MapForms.{MapForm, Looped, Guarded, Alone, TurnCode, form_over_groups, variables_in}
 use Rattle.printed_form.specs.Marks.{Marks, laid_in, loaded_marks}
@@ -63,14 +63,14 @@ module _ (l : Launch) (item : ℕ) (ins : ℕ → Marks) {A : Type 0} (num : A �
   takes_column len e = subst (λ z. start_value (ids_of l item) (FromLocalId X) < z) (sym (alone.columns len e)) (mod-lt (column_of l item) whole.x.positive)
 
   -- a map along a row
-  along_row : (t : Term A) (ts : List ℕ) (r k p n : ℕ) (env : ℕ → Marks) (w : Marks) (a b c d : Code) → IsAlongRow num forms l ins item k p n env t w ts r a c → IsAlongRow num forms l ins item k p n env t w ts r b d → Alike true l item ts c d → Alike true l item ts a b
+  along_row : (t : Term A) (ts : List ℕ) (r k p : ℕ) (n : Count) (env : ℕ → Marks) (w : Marks) (a b c d : Code) → IsAlongRow num forms l ins item k p n env t w ts r a c → IsAlongRow num forms l ins item k p n env t w ts r b d → Alike true l item ts c d → Alike true l item ts a b
   along_row (Reshape m t) ts r k p n env w a b c d x y h = along_row t ts r k p n env (λ cs q. w cs (result_position num m q)) a b c d x.1 y.1 h
   along_row (Map Local len loads xs t) ts r k p n env w a b c d x y h =
       let f = marks_in local_arrays num ins env k xs in
-      let v = n + variable_count xs in
+      let v = more n (variable_count xs) in
       in_turns l item (forms.columns.local len) ts (FromLocalId X) (ByLocalSize X) (num len) _ a b c d (takes_column len) x y
       (λ us j e g m i u s rest. loaded l item ins us loads (at_index j f) v e g u.0 s.0 u.1 s.1
-      (alike_written true l item ins num t us (push (loaded_marks loads (at_index j f) v) env) (p + private_count xs) (v + load_count loads) (at_index j w) u.0 s.0 m i u.2 s.2 rest))
+      (alike_written true l item ins num t us (push (loaded_marks loads (at_index j f) v) env) (p + private_count xs) (more v (load_count loads)) (at_index j w) u.0 s.0 m i u.2 s.2 rest))
       h
   along_row _ ts r k p n env w a b c d x y h = absurd x
 
@@ -84,7 +84,7 @@ module _ (l : Launch) (item : ℕ) (ins : ℕ → Marks) {A : Type 0} (num : A �
     nest env u len loads marks t w a b c d x y h =
         in_turns l item (forms.rows.local len) around (FromLocalId Y) (ByLocalSize Y) (num len) _ a b c d (takes_row len) (x item i here it row column) (y item i here it row column)
         (λ us j p q m k r s rest. loaded l item ins us loads (at_index j (marks i)) u.variables p q r.0 s.0 r.1 s.1
-        (along_row t us j u.locals u.privates (u.variables + load_count loads) (push (loaded_marks loads (at_index j (marks i)) u.variables) (env i)) (at_index j (w i)) r.0 s.0 m k r.2 s.2 rest))
+        (along_row t us j u.locals u.privates (more u.variables (load_count loads)) (push (loaded_marks loads (at_index j (marks i)) u.variables) (env i)) (at_index j (w i)) r.0 s.0 m k r.2 s.2 rest))
         h
 
     mutual
@@ -114,14 +114,14 @@ module _ (l : Launch) (item : ℕ) (ins : ℕ → Marks) {A : Type 0} (num : A �
           (nest env (used_after u xs) len loads (marks_of num ins env u.locals xs) t w x.1 y.1 c d x.4 y.4 h))
       written _ env u w a b c d few x y h = absurd x
 
-    turn : (first : ℕ) (env : (turn var : ℕ) → Marks) (loads : LoadSet) (marks : ℕ → Marks) (t : Term A) (w : ℕ → Marks) (a b : Code) → n ≡ phases_in t
+    turn : (first : Count) (env : (turn var : ℕ) → Marks) (loads : LoadSet) (marks : ℕ → Marks) (t : Term A) (w : ℕ → Marks) (a b : Code) → n ≡ phases_in t
         → IsGridTurn num forms l ins one rf cf grid first env loads marks t w a → IsGridTurn num forms l ins other rf cf grid first env loads marks t w b → Alike true l item around a b
     turn first env loads marks t w a b e x y =
         loaded l item ins around loads (marks i) first a b x.0 y.0 (x.2 item i here it row column) (y.2 item i here it row column)
-        (written t (λ j. push (loaded_marks loads (marks j) first) (env j)) (record { locals = 0; privates = 0; variables = first + load_count loads; phases = 0 }) w x.0 y.0 x.1 y.1 (omega arith) x.3 y.3
+        (written t (λ j. push (loaded_marks loads (marks j) first) (env j)) (record { locals = 0; privates = 0; variables = more first (load_count loads); phases = 0 }) w x.0 y.0 x.1 y.1 (omega arith) x.3 y.3
         (past l item around (one (phases_in t)) (other (phases_in t)) x.1 y.1 End End (same (phases_in t) (omega arith)) x.4 y.4 tt))
 
-  along_groups : (t : Term A) (rf : MapForm) (rows n r : ℕ) (env : (row var : ℕ) → Marks) (w : (row : ℕ) → Marks) (a b : Code) → r < rows → IsGroupRow l item r → ((q : ℕ) → q ≤ phases_along t → one q ≡ other q)
+  along_groups : (t : Term A) (rf : MapForm) (rows : ℕ) (n : Count) (r : ℕ) (env : (row var : ℕ) → Marks) (w : (row : ℕ) → Marks) (a b : Code) → r < rows → IsGroupRow l item r → ((q : ℕ) → q ≤ phases_along t → one q ≡ other q)
       → IsAlongGroups num forms l ins one rf rows n env t w a → IsAlongGroups num forms l ins other rf rows n env t w b → Alike true l item (variables_in rf [] r) a b
   along_groups (Reshape m t) rf rows n r env w a b rl row same x y = along_groups t rf rows n r env (λ u cs p. w u cs (result_position num m p)) a b rl row same x.1 y.1
   along_groups (Map WorkGroup z loads xs t) rf rows n r env w a b rl row same x y =
@@ -145,8 +145,8 @@ module _ (l : Launch) (item : ℕ) (ins : ℕ → Marks) {A : Type 0} (num : A �
       let rf = form_over_groups (forms.rows.once z) in
       let f = argument_marks l ins num env 0 xs in
       statement l item ins (forms.rows.once z) [] (FromGroupId Y) (ByGroupCount Y) len x.1 y.1 a b x.0 y.0 x.3 y.3 x.4 y.4
-      (λ r rl row. loaded l item ins (variables_in rf [] r) loads (at_index r f) 0 x.1 y.1 x.2 y.2 (x.5 item r here rl row) (y.5 item r here rl row)
-      (along_groups t rf len (load_count loads) r (λ u. push (loaded_marks loads (at_index u f) 0) env) (λ u. at_index u w) x.2 y.2 rl row same x.6 y.6))
+      (λ r rl row. loaded l item ins (variables_in rf [] r) loads (at_index r f) no_variables x.1 y.1 x.2 y.2 (x.5 item r here rl row) (y.5 item r here rl row)
+      (along_groups t rf len (load_count loads) r (λ u. push (loaded_marks loads (at_index u f) no_variables) env) (λ u. at_index u w) x.2 y.2 rl row same x.6 y.6))
   over_grid _ env w a b same x y = absurd x
 
 pub grid_codes_alike : (A : Type 0) → GridCodesAlike A

@@ -10,7 +10,7 @@ use Rattle.lift_ir.specs.Layouts.{operand_position, result_position}
 use Rattle.lift_ir.specs.Terms.{LoadSet, Local, LocalRows, LocalMemory, Term, Bound, Source, Both, Project, Reshape, LetArray, Map, Copy, push, HasType}
 use Rattle.lift_ir.specs.Scalars.{Scalars, at_index, scalars_of}
 use Rattle.printed_form.specs.Arguments.{marks_in, local_arrays}
-use Rattle.printed_form.specs.Counts.{load_count, variable_count, private_count, local_count}
+use Rattle.printed_form.specs.Counts.{Count, more, load_count, variable_count, private_count, local_count}
 use Rattle.printed_form.specs.Marks.{Marks, loaded_marks}
 use Rattle.printed_form.specs.Form.{IsLoaded, IsWritten}
 use Rattle.printed_form.specs.MapForms.{MapForm, Looped, Guarded, Alone, TurnCode}
@@ -88,21 +88,21 @@ module _ {A : Type 0} (num : A → ℕ) (l : Launch) (c : Cells) (wanted : List 
   MapOf s code rest = AtItsTurns num l p (λ item i. IsNestCode num l item b.ins s.nest (place_of b.out i s) (FromLocalId Y) (ByLocalSize Y) (FromLocalId X) (ByLocalSize X) (variables_at num l p i) code rest)
 
   -- a map along a row is printed for the places of its stage
-  module _ (n : A) (loads : LoadSet) (x : Ty) (types : ℕ → Ty) (rm : ℕ → Marks) (rs : ℕ → Scalars) (env : (turn row var : ℕ) → Marks) (sems : (turn row var : ℕ) → Scalars) (k a m : ℕ) (us : List Use) (d : Destination) where
+  module _ (n : A) (loads : LoadSet) (x : Ty) (types : ℕ → Ty) (rm : ℕ → Marks) (rs : ℕ → Scalars) (env : (turn row var : ℕ) → Marks) (sems : (turn row var : ℕ) → Scalars) (k a : ℕ) (m : Count) (us : List Use) (d : Destination) where
     abbrev stage : (t : Term A) (ty : Ty) → HasType num b.src types t ty → (outer path : List ℕ → List ℕ) → Stage A
     stage t ty h outer path = stages.along_stage num b.forms b.ins b.src b.sources n loads x types rm rs env sems k a m us d t ty h outer path
 
     along_code : (t : Term A) (ty : Ty) (h : HasType num b.src types t ty) (outer path : List ℕ → List ℕ) → StandsAlongRow t → (item i : ℕ) (ts : List ℕ) (code rest : Code)
         → AreTurnsFrom l item (b.forms.rows.local n) (FromLocalId Y) (ByLocalSize Y) ts (num n)
         (λ us r before after. (mid : Code) × IsLoaded l item b.ins us loads (at_index r (rm i)) m before mid
-        × form.IsAlongRow num b.forms l b.ins item k a (m + load_count loads) (env i r) t (λ cs q. destination_marks b.out i d cs (outer (r ∷ q))) us r mid after)
+        × form.IsAlongRow num b.forms l b.ins item k a (more m (load_count loads)) (env i r) t (λ cs q. destination_marks b.out i d cs (outer (r ∷ q))) us r mid after)
         code rest
         → IsNestCode num l item b.ins (stage t ty h outer path).nest (place_of b.out i (stage t ty h outer path)) (FromLocalId Y) (ByLocalSize Y) (FromLocalId X) (ByLocalSize X) ts code rest
     along_code (Reshape y t) ty h outer path f item i ts code rest z =
         along_code t h.0 h.1 (λ q. outer (under (result_position num y) q)) (λ q. under (operand_position num y) (path q)) f.1 item i ts code rest
         (turns_as l item (b.forms.rows.local n) (FromLocalId Y) (ByLocalSize Y) ts (num n) _
         (λ us r before after. (mid : Code) × IsLoaded l item b.ins us loads (at_index r (rm i)) m before mid
-        × form.IsAlongRow num b.forms l b.ins item k a (m + load_count loads) (env i r) t (λ cs q. destination_marks b.out i d cs (outer (under (result_position num y) (r ∷ q)))) us r mid after)
+        × form.IsAlongRow num b.forms l b.ins item k a (more m (load_count loads)) (env i r) t (λ cs q. destination_marks b.out i d cs (outer (under (result_position num y) (r ∷ q)))) us r mid after)
         (λ us r before after lt e. (e.0, e.1, e.2.1)) code rest z)
     along_code (Map Local n2 loads2 ys body) ty h outer path f item i ts code rest z =
         let s = stage (Map Local n2 loads2 ys body) ty h outer path in
@@ -114,7 +114,7 @@ module _ {A : Type 0} (num : A → ℕ) (l : Launch) (c : Cells) (wanted : List 
               (λ vs j before2 after2 lt2 w.
               let to = λ (u v : ℕ) (cs : List Bool) (q : List ℕ). destination_marks b.out i d cs (outer (u ∷ v ∷ q)) in
               let same : to r j ≡ to ((r * num n2 + j) / num n2) ((r * num n2 + j) % num n2) = sym (ap (λ u. to u ((r * num n2 + j) % num n2)) (div-mul-add r (num n2) j lt2) ∙ ap (to r) (mod-mul-add r (num n2) j lt2)) in
-              (w.0, w.1, subst (λ g. IsWritten l item b.ins num vs (push (loaded_marks loads2 (at_index j (marks_in local_arrays num b.ins (env i r) k ys)) (m + load_count loads + variable_count ys)) (env i r)) (a + private_count ys) (m + load_count loads + variable_count ys + load_count loads2) body g w.0 after2) same w.2))
+              (w.0, w.1, subst (λ g. IsWritten l item b.ins num vs (push (loaded_marks loads2 (at_index j (marks_in local_arrays num b.ins (env i r) k ys)) (more (more m (load_count loads)) (variable_count ys))) (env i r)) (a + private_count ys) (more (more (more m (load_count loads)) (variable_count ys)) (load_count loads2)) body g w.0 after2) same w.2))
               e.0 after e.2,
         )) code rest z
     along_code _ ty h outer path f item i ts code rest z = absurd (assumption)
@@ -153,11 +153,11 @@ module _ {A : Type 0} (num : A → ℕ) (l : Launch) (c : Cells) (wanted : List 
     written_count _ s ty h d outer path f = absurd (assumption)
 
   nest_printed : (n : A) (s : Scope) (loads : LoadSet) (xs body : Term A) (x y : Ty) (d : Destination) (outer path : List ℕ → List ℕ) (typed : HasType num b.src (push x s.types) body y) → StandsAlongRow body → (code rest : Code)
-      → form.IsLocalNest num b.forms l b.ins fence b.rows_form b.columns_form b.grid s.env (record { locals = s.locals + local_count xs; privates = s.privates + private_count xs; variables = s.variables + variable_count xs; phases = 0 }) n loads (marks_of num b.ins s.env s.locals xs) body (goes d outer) code rest
+      → form.IsLocalNest num b.forms l b.ins fence b.rows_form b.columns_form b.grid s.env (record { locals = s.locals + local_count xs; privates = s.privates + private_count xs; variables = more s.variables (variable_count xs); phases = 0 }) n loads (marks_of num b.ins s.env s.locals xs) body (goes d outer) code rest
       → MapOf (last_stage num b.forms b.ins b.src b.sources n s loads xs body x y d outer path typed) code rest
   nest_printed n s loads xs body x y d outer path typed f code rest z item i jl il own_row own_column =
       along_code n loads (cut x (element_ways loads body)) (push (cut x (element_ways loads body)) (λ v. cut (s.types v) (ways v (named_outside body)))) (marks_of num b.ins s.env s.locals xs) (λ i. scalars_of num b.sources (s.sems i) xs)
-      (λ i j. push (loaded_marks loads (at_index j (marks_of num b.ins s.env s.locals xs i)) (s.variables + variable_count xs)) (s.env i)) (λ i j. push (at_index j (scalars_of num b.sources (s.sems i) xs)) (s.sems i)) (s.locals + local_count xs) (s.privates + private_count xs) (s.variables + variable_count xs)
+      (λ i j. push (loaded_marks loads (at_index j (marks_of num b.ins s.env s.locals xs i)) (more s.variables (variable_count xs))) (s.env i)) (λ i j. push (at_index j (scalars_of num b.sources (s.sems i) xs)) (s.sems i)) (s.locals + local_count xs) (s.privates + private_count xs) (more s.variables (variable_count xs))
       (loop_uses s.origins (bent (origin_of s.origins s.locals xs)) loads body d false) d body y (body_typed num b.src s.types loads body x y typed) outer path f item i (variables_at num l p i) code rest (z item i jl il own_row own_column)
 
   mutual

@@ -6,7 +6,7 @@ use Rattle.lift_ir.specs.Types.{Ty, PairOf, ArrayOf, width}
 use Rattle.lift_ir.specs.Layouts.{operand_position, result_position}
 use Rattle.lift_ir.specs.Terms.{LoadSet, Local, LocalRows, LocalMemory, Term, Bound, Source, Both, Project, Reshape, LetArray, Map, Copy, push, HasType}
 use Rattle.lift_ir.specs.Scalars.{Scalars, at_index, scalars_of}
-use Rattle.printed_form.specs.Counts.{variable_count, private_count, local_count}
+use Rattle.printed_form.specs.Counts.{Count, more, variable_count, private_count, local_count}
 use Rattle.printed_form.specs.Marks.{Marks, loaded_marks}
 use Rattle.group_form.specs.GridTerms.{GridForms, StandsAlongRow, StandsInGrid, argument_uses, written_uses}
 use Rattle.group_form.specs.Uses.{Use, Destination, Locals, Outputs, loop_uses, touch_of, touches_in, numbered}
@@ -97,10 +97,10 @@ module _ {A : Type 0} (num : A → ℕ) (forms : GridForms A) (ins : ℕ → Mar
   abbrev pub last_stage : (n : A) (s : Scope) (loads : LoadSet) (xs body : Term A) (x y : Ty) (d : Destination) (outer path : List ℕ → List ℕ) → HasType num src (push x s.types) body y → Stage A
   last_stage n s loads xs body x y d outer path typed =
       stages.along_stage num forms ins src sources n loads (cut x (element_ways loads body)) (push (cut x (element_ways loads body)) (λ v. cut (s.types v) (ways v (named_outside body)))) (marks_of num ins s.env s.locals xs) (λ i. scalars_of num sources (s.sems i) xs)
-      (λ i j. push (loaded_marks loads (at_index j (marks_of num ins s.env s.locals xs i)) (s.variables + variable_count xs)) (s.env i)) (λ i j. push (at_index j (scalars_of num sources (s.sems i) xs)) (s.sems i)) (s.locals + local_count xs) (s.privates + private_count xs) (s.variables + variable_count xs)
+      (λ i j. push (loaded_marks loads (at_index j (marks_of num ins s.env s.locals xs i)) (more s.variables (variable_count xs))) (s.env i)) (λ i j. push (at_index j (scalars_of num sources (s.sems i) xs)) (s.sems i)) (s.locals + local_count xs) (s.privates + private_count xs) (more s.variables (variable_count xs))
       (loop_uses s.origins (bent (origin_of s.origins s.locals xs)) loads body d false) d body y (body_typed num src s.types loads body x y typed) outer path
 
-  along_is : (n : A) (loads : LoadSet) (x : Ty) (types : ℕ → Ty) (rm : ℕ → Marks) (rs : ℕ → Scalars) (env : (turn row var : ℕ) → Marks) (sems : (turn row var : ℕ) → Scalars) (k a m : ℕ) (us : List Use) (d : Destination) (t : Term A) (ty : Ty) (h : HasType num src types t ty) (outer path : List ℕ → List ℕ) → StandsAlongRow t
+  along_is : (n : A) (loads : LoadSet) (x : Ty) (types : ℕ → Ty) (rm : ℕ → Marks) (rs : ℕ → Scalars) (env : (turn row var : ℕ) → Marks) (sems : (turn row var : ℕ) → Scalars) (k a : ℕ) (m : Count) (us : List Use) (d : Destination) (t : Term A) (ty : Ty) (h : HasType num src types t ty) (outer path : List ℕ → List ℕ) → StandsAlongRow t
       → let s = stages.along_stage num forms ins src sources n loads x types rm rs env sems k a m us d t ty h outer path in (s.locals ≡ k) × (s.destination ≡ d) × (s.uses ≡ us)
   along_is n loads x types rm rs env sems k a m us d (Reshape y t) ty h outer path f = along_is n loads x types rm rs env sems k a m us d t h.0 h.1 (λ p. outer (under (result_position num y) p)) (λ p. under (operand_position num y) (path p)) f.1
   along_is n loads x types rm rs env sems k a m us d (Map Local n2 loads2 ys body) ty h outer path f = (refl, refl, refl)
@@ -110,7 +110,7 @@ module _ {A : Type 0} (num : A → ℕ) (forms : GridForms A) (ins : ℕ → Mar
       → let t = last_stage n s loads xs body x y d outer path typed in (t.locals ≡ s.locals + local_count xs) × (t.destination ≡ d) × (t.uses ≡ loop_uses s.origins (bent (origin_of s.origins s.locals xs)) loads body d false)
   last_is n s loads xs body x y d outer path typed f =
       along_is n loads (cut x (element_ways loads body)) (push (cut x (element_ways loads body)) (λ v. cut (s.types v) (ways v (named_outside body)))) (marks_of num ins s.env s.locals xs) (λ i. scalars_of num sources (s.sems i) xs)
-      (λ i j. push (loaded_marks loads (at_index j (marks_of num ins s.env s.locals xs i)) (s.variables + variable_count xs)) (s.env i)) (λ i j. push (at_index j (scalars_of num sources (s.sems i) xs)) (s.sems i)) (s.locals + local_count xs) (s.privates + private_count xs) (s.variables + variable_count xs)
+      (λ i j. push (loaded_marks loads (at_index j (marks_of num ins s.env s.locals xs i)) (more s.variables (variable_count xs))) (s.env i)) (λ i j. push (at_index j (scalars_of num sources (s.sems i) xs)) (s.sems i)) (s.locals + local_count xs) (s.privates + private_count xs) (more s.variables (variable_count xs))
       (loop_uses s.origins (bent (origin_of s.origins s.locals xs)) loads body d false) d body y (body_typed num src s.types loads body x y typed) outer path f
 
   mutual

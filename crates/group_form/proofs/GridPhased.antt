@@ -15,13 +15,15 @@ use Rattle.lift_ir.specs.Types.{Ty, ArrayOf, IsPosition, IsFlat, width, componen
 use Rattle.lift_ir.specs.Terms.{LoadsScalars}
 use Rattle.lift_ir.specs.Scalars.{Scalars}
 use Rattle.lift_ir.proofs.Numbers.{component_below, flat_below, component_same, flat_same, unflat_flat}
-use Rattle.printed_form.specs.Marks.{Mark, Nowhere, Register, Spot, Marks, loaded_marks}
+use Rattle.printed_form.specs.Counts.{AtMost}
+use Rattle.printed_form.specs.Marks.{Mark, Nowhere, Register, Lane, Spot, Marks}
 use Rattle.printed_form.specs.Whole.{IsGiven}
 use Rattle.printed_form.proofs.Loops.{rest_is}
 use Rattle.group_phases.specs.Cells.{output_cell, local_cell, IsOwnOutput}
-use Rattle.group_phases.specs.GridPhases.{GridList, group_turns, turn_row, turn_at, places_of, place_at, grid_scalars, targets, work_of, IsRead, NothingHeld, IsHeldInRow, IsFillable}
+use Rattle.group_phases.specs.GridPhases.{GridList, group_turns, turn_at, places_of, place_at, grid_scalars, targets, work_of, IsHeldScalar, IsRead, NothingHeld, IsHeldInRow, IsFillable}
 use Rattle.group_phases.specs.GridPrinted.{IsGridPhased}
 use Rattle.group_phases.specs.Grids.{Grid, IsWalk, IsOn, places, rows_taken, columns_taken, place_taken, group_walk, local_walk}
+use Rattle.group_phases.specs.Groups.{declared}
 use Rattle.group_phases.specs.Phases.{cell_of}
 use Rattle.group_phases.specs.Strides.{MakesTurnsBy}
 use Rattle.group_phases.specs.Work.{IsOwnLocal}
@@ -33,11 +35,12 @@ use Rattle.group_form.specs.Uses.{Use, Destination, Locals, Outputs, touch_of, n
 use Rattle.group_form.specs.Whole.{destination_type}
 use Rattle.group_form.proofs.GridCounters.{Chained, first_is, home_at, in_order, among_numbered}
 use Rattle.group_form.proofs.GridSight as sight
-use Rattle.group_form.proofs.GridSight.{IsFilledCell, ReadAt}
+use Rattle.group_form.proofs.GridSight.{ReadAt}
 use Rattle.group_form.proofs.GridStages as stages
 use Rattle.group_form.proofs.GridStages.{Stage, GridBody, stage_at, place_of, result_type, value_in, home_in, held_position, item_in, uses_of, grid_list}
 use Rattle.group_form.proofs.Lists.{contained}
 use Rattle.group_form.proofs.Phased.{choices_component}
+use Rattle.group_form.proofs.Seen.{IsTurnScalar}
 use Rattle.group_form.proofs.Uses.{reading}
 
 -- of a map of one turn at most a group has one at most
@@ -129,11 +132,11 @@ module _ {A : Type 0} (num : A → ℕ) (k : Kernel) (l : Launch) (c : Cells) (o
     pub rows_made : MakesTurnsBy b.rows_form b.grid.rows (groups_down l)
     pub columns_made : MakesTurnsBy b.columns_form b.grid.columns (groups_across l)
     pub once : b.once ≡ true → (b.grid.rows ≤ 1) × (b.grid.columns ≤ 1)
-    pub room : b.variables ≤ k.variables
+    pub room : AtMost b.variables (declared k)
     pub row_top_loads : LoadsScalars b.row_top.loads b.row_top.type
     pub top_loads : LoadsScalars b.top.loads b.top.type
     pub row_top_given : (r : ℕ) → r < b.grid.rows → (cs : List Bool) (p : List ℕ) → IsPosition b.row_top.type cs p → IsGiven c (b.row_top.marks r cs p) (b.row_top.scalars r cs p)
-    pub top_given : (i : ℕ) → i < places b.grid → (cs : List Bool) (p : List ℕ) → IsPosition b.top.type cs p → IsGiven c (b.top.marks i cs p) (b.top.scalars i cs p)
+    pub top_given : (i : ℕ) → i < places b.grid → (cs : List Bool) (p : List ℕ) → IsPosition b.top.type cs p → IsGiven c (b.top.marks i cs p) (b.top.scalars i cs p) ⊎ IsTurnScalar b.row_top (i / b.grid.columns) (b.top.marks i cs p) (b.top.scalars i cs p)
     pub stages : (q : ℕ) → q < length b.stages → sight.IsStage num (length_in k c) l few_rows few c b makes given q (stage_at b.stages q)
     pub chained : Chained 0 b.stages
     pub last : ℕ
@@ -251,7 +254,7 @@ module _ {A : Type 0} (num : A → ℕ) (k : Kernel) (l : Launch) (c : Cells) (o
     told q u ql a = let e : 0 + q ≡ q = omega arith in contained (touch_of q u) (numbered 0 (uses_of b.stages)) (subst (λ z. Among (touch_of z u) (numbered 0 (uses_of b.stages))) e (among_numbered 0 q b.stages u ql a))
 
     -- a cell that an earlier phase fills
-    read_earlier : (Held : ℕ → ℕ → Type 0) (t q j : ℕ) (plainly : Bool) (w f : ℕ) (ty : Ty) (ds : List Bool) (r : List ℕ) → t < turns j → q < n → j < item_count l
+    read_earlier : (Held : Mark → ℕ → Type 0) (t q j : ℕ) (plainly : Bool) (w f : ℕ) (ty : Ty) (ds : List Bool) (r : List ℕ) → t < turns j → q < n → j < item_count l
         → w < q → (stage w).destination ≡ Locals f ty → IsPosition (result_type (stage w)) ds r → Among (reading (f + component ty ds) plainly) (stage q).uses
         → IsRead num k l c p t q j Held (Spot (LocalArray (f + component ty ds)) (flat ty ((stage w).outer r))) (value_in num b.sources b.out (at_turn t j) (stage w) ds r)
     read_earlier Held t q j plainly w f ty ds r tl ql jl before e x used =
@@ -296,7 +299,13 @@ module _ {A : Type 0} (num : A → ℕ) (k : Kernel) (l : Launch) (c : Cells) (o
         never : {P : Type 0} → false ≡ true → P
         never e = absurd (cc)
 
-    reads : (Held More : ℕ → ℕ → Type 0) (t q j : ℕ) (m : Mark) (v : ℕ) → t < turns j → q < n → j < item_count l → ((r a : ℕ) → Held r a → More r a) → ReadAt num (length_in k c) l few_rows few c b makes given Held (stage q).uses q (at_turn t j) m v → IsRead num k l c p t q j More m v
+    -- a scalar in a variable, of the row, of the turn, or held
+    held_scalar : (Held More : Mark → ℕ → Type 0) (t j : ℕ) (m : Mark) (v : ℕ) → t < turns j → j < item_count l → ((r : Mark) (a : ℕ) → Held r a → More r a) → sight.IsTopScalar num (length_in k c) l few_rows few c b makes given (at_turn t j) m v ⊎ Held m v → IsHeldScalar num l p t j More m v
+    held_scalar Held More t j m v tl jl more (inl (inl y)) = inl (subst (λ r. IsTurnScalar b.row_top r m v) (place_row b.grid (group_walk l (group_of l j)) (group_walks l h.whole j jl) t tl) y)
+    held_scalar Held More t j m v tl jl more (inl (inr y)) = inr (inl y)
+    held_scalar Held More t j m v tl jl more (inr y) = inr (inr (more m v y))
+
+    reads : (Held More : Mark → ℕ → Type 0) (t q j : ℕ) (m : Mark) (v : ℕ) → t < turns j → q < n → j < item_count l → ((r : Mark) (a : ℕ) → Held r a → More r a) → ReadAt num (length_in k c) l few_rows few c b makes given Held (stage q).uses q (at_turn t j) m v → IsRead num k l c p t q j More m v
     reads Held More t q j (Spot (Input a) i) v tl ql jl more s = (s.0, tt, inl (record { array = a; index = i; is = refl; within = s.0; has = refl }), s.1)
     reads Held More t q j (Spot (LocalArray a) i) v tl ql jl more s =
         let e = s.0 in
@@ -313,15 +322,8 @@ module _ {A : Type 0} (num : A → ℕ) (k : Kernel) (l : Launch) (c : Cells) (o
             number_of _ = 0
     reads Held More t q j (Spot (Output a) i) v tl ql jl more s = absurd s
     reads Held More t q j (Spot (Private a) i) v tl ql jl more s = absurd s
-    reads Held More t q j (Register x) v tl ql jl more s = by_scalar s
-      where
-        row_is : at_turn t j / b.grid.columns ≡ turn_row l p t j
-        row_is = place_row b.grid (group_walk l (group_of l j)) (group_walks l h.whole j jl) t tl
-
-        by_scalar : ReadAt num (length_in k c) l few_rows few c b makes given Held (stage q).uses q (at_turn t j) (Register x) v → IsRead num k l c p t q j More (Register x) v
-        by_scalar (inl (inl y)) = inl (subst (λ r. (cs : List Bool) × (q : List ℕ) × IsPosition b.row_top.type cs q × (loaded_marks b.row_top.loads (b.row_top.marks r) 0 cs q ≡ Register x) × (b.row_top.scalars r cs q ≡ v)) row_is y)
-        by_scalar (inl (inr y)) = inr (inl y)
-        by_scalar (inr y) = inr (inr (more x v y))
+    reads Held More t q j (Register x) v tl ql jl more s = held_scalar Held More t j (Register x) v tl jl more s
+    reads Held More t q j (Lane x e) v tl ql jl more s = held_scalar Held More t j (Lane x e) v tl jl more s
     reads Held More t q j Nowhere v tl ql jl more s = absurd s
 
     fillable : (i q : ℕ) → i < places b.grid → q < n → (cs : List Bool) (r : List ℕ) → IsPosition (result_type (stage q)) cs r → IsFillable k c p q (to i q cs r)
@@ -481,9 +483,6 @@ module _ {A : Type 0} (num : A → ℕ) (k : Kernel) (l : Launch) (c : Cells) (o
                   column = sym (mod-mul-add y (groups_across l) x xl) ∙ ap (λ z. z % groups_across l) e;
                 }
 
-    none_more : (Held : ℕ → ℕ → Type 0) (r a : ℕ) → Held r a → Held r a
-    none_more Held r a x = x
-
     pub phased : IsGridPhased p num k l c owner wanted
     phased = record {
       room = record {
@@ -537,6 +536,7 @@ module _ {A : Type 0} (num : A → ℕ) (k : Kernel) (l : Launch) (c : Cells) (o
         reads_input t q j (Spot (LocalArray a) i) v s = absurd s
         reads_input t q j (Spot (Private a) i) v s = absurd s
         reads_input t q j (Register x) v s = absurd s
+        reads_input t q j (Lane x e) v s = absurd s
         reads_input t q j Nowhere v s = absurd s
 
         row_in : (q j u : ℕ) → u < rows_taken (stage q).nest.grid (local_walk l j) → (local_walk l j).row + u * l.local.1 < (stage q).nest.grid.rows

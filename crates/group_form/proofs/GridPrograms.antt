@@ -17,6 +17,7 @@ use Rattle.lift_ir.specs.Types.{Ty, measured, IsFlat}
 use Rattle.lift_ir.specs.Terms.{HasType, no_type}
 use Rattle.lift_ir.specs.Scalars.{Scalars, HasScalars, scalars_in, scalars_of, no_scalars, lists_of}
 use Rattle.lift_ir.specs.AtLaunch.{length_at, ty_at, shape_of}
+use Rattle.lift_ir.specs.Fours.{KeepsFours}
 use Rattle.lift_ir.specs.Lowerable.{IsStaged}
 use Rattle.lift_ir.specs.Lowering.{Lowered, Written}
 use Rattle.lift_ir.proofs.Lists.{are_lists, lists_long}
@@ -84,9 +85,9 @@ module _ (d : Declared) (asks : Asks) (w : World) (t : Tree) (a : Annotation) (l
 
 -- what the printer makes of a typed term, with the needed barriers, is printed for it
 pub grids_are_printed : GridPrinterPrints (List Monomial) → (d : Declared) (asks : Asks) (bases : List ℕ) (t : Tree) (a : Annotation) (l : Launch) (spell : List Monomial → Formula) (fence : ℕ → Fencing)
-    → IsLowerableProgram d bases t a → IsLaunchOf d asks bases t a l → IsStaged Written t a → StandsOverGrid (lowered_root d.names t a) → FitsBuffers d bases a → IsSpelling spell bases l → AreNeededBy OfGrids d asks.local fence t a
+    → IsLowerableProgram d bases t a → IsLaunchOf d asks bases t a l → IsStaged Written t a → StandsOverGrid (lowered_root d.names t a) → KeepsFours (lowered_root d.names t a) → FitsBuffers d bases a → IsSpelling spell bases l → AreNeededBy OfGrids d asks.local fence t a
     → PrintsGrids d asks.local bases t a l (printed_grid_kernel spell fence d asks.local t a)
-grids_are_printed prints d asks bases t a l spell fence program launch staged stands placed spelled needed =
+grids_are_printed prints d asks bases t a l spell fence program launch staged stands fours placed spelled needed =
     let num = length_at bases in
     let low = lowered_root d.names t a in
     let same = shape_is bases (type_in a) in
@@ -98,6 +99,6 @@ grids_are_printed prints d asks bases t a l spell fence program launch staged st
       needed = needed;
       code =
           subst (λ z. IsOverGrid num forms l (input_marks num (first_buffer d.inputs) (input_shape d.inputs)) fence no_marks low (output_marks z) (grid_kernel_code spell forms (first_buffer d.inputs) (input_shape d.inputs) fence low (shape_of (type_in a)))) same
-          (prints l num forms makes spell spelled (first_buffer d.inputs) (input_shape d.inputs) fence low (shape_of (type_in a)) stands
+          (prints l num forms makes spell spelled (first_buffer d.inputs) (input_shape d.inputs) fence low (shape_of (type_in a)) stands fours
           (subst (λ z. HasType num (λ v. measured num (input_shape d.inputs v)) no_type low z) (sym same) (own.lowered_has d asks bases t a l program launch)) (names_suffice d bases t a program.nodes program.lowerable staged) placed.0 (own.inputs_placed bases d.inputs placed.1));
     }

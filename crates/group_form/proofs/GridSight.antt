@@ -7,20 +7,22 @@ use Rattle.kernel_tree.specs.Code.{Array, Input, Output, Local as LocalArray, Pr
 use Rattle.kernel_tree.specs.Device.{row}
 use Rattle.kernel_tree.specs.Faults.{Among}
 use Rattle.kernel_tree.specs.Launch.{Launch, Cells}
-use Rattle.lift_ir.specs.Types.{Ty, Scalar, PairOf, ArrayOf, IsPosition, IsFlat, width, size}
+use Rattle.lift_ir.specs.Types.{Ty, PairOf, ArrayOf, IsPosition, IsFlat, width, size}
 use Rattle.lift_ir.specs.Layouts.{Layout, operand_position, result_position, Reshapes, IsInvertible}
-use Rattle.lift_ir.specs.Terms.{LoadSet, Skip, Take, Each as EachOf, Local, LocalRows, LocalMemory, Term, Bound, Source, Both, Project, Reshape, LetArray, Map, Copy, LoadsScalars, push, HasType}
+use Rattle.lift_ir.specs.Terms.{LoadSet, Local, LocalRows, LocalMemory, Term, Bound, Source, Both, Project, Reshape, LetArray, Map, Copy, LoadsScalars, push, HasType}
 use Rattle.lift_ir.specs.Owner.{local_owner, local_row_owner}
 use Rattle.lift_ir.specs.Scalars.{Scalars, by_side, at_index, scalars_of}
 use Rattle.lift_ir.proofs.Positions.{operand_in, result_in, result_operand}
 use Rattle.printed_form.specs.Arguments.{marks_in, local_arrays}
-use Rattle.printed_form.specs.Counts.{load_count, variable_count, private_count, local_count}
-use Rattle.printed_form.specs.Marks.{Mark, Nowhere, Register, Spot, Marks, laid_in, loaded_marks}
+use Rattle.printed_form.specs.Counts.{Count, more, AtMost, load_count, variable_count, private_count, local_count}
+use Rattle.printed_form.specs.Marks.{Mark, Nowhere, Register, Lane, Spot, Marks, laid_in, loaded_marks}
 use Rattle.printed_form.specs.Form.{Declares}
 use Rattle.printed_form.specs.Whole.{IsGiven}
 use Rattle.group_phases.specs.Grids.{places}
 use Rattle.group_phases.specs.Strides.{MakesTurnsBy}
+use Rattle.printed_form.proofs.Runs.{many_more}
 use Rattle.group_phases.proofs.Grids.{pair_below, some_factor}
+use Rattle.group_phases.proofs.Held.{IsVariable, loaded_or}
 use Rattle.group_phases.proofs.TurnForms.{below}
 use Rattle.group_form.specs.Body.{destination_marks, first_index}
 use Rattle.group_form.specs.Forms.{IsOfInputs}
@@ -35,16 +37,17 @@ use Rattle.group_form.specs.Whole.{DeclaresLocals, destination_type}
 use Rattle.group_form.proofs.GridStages as stages
 use Rattle.group_form.proofs.GridStages.{Stage, GridBody, stage_at, place_of, result_type, value_in, under, split_up, joined_up, Each, each_append, each_left, each_right}
 use Rattle.group_form.proofs.Lists.{long_append, among_left, among_right}
+use Rattle.group_form.proofs.Most.{most_first, most_rest, most_later}
 use Rattle.group_form.proofs.Named.{body_typed, cut_position, element_loads}
-use Rattle.group_form.proofs.Seen.{way_bent, laid_at}
+use Rattle.group_form.proofs.Seen.{way_bent, laid_at, IsTurnScalar}
 use Rattle.group_form.proofs.Uses.{reading, element_told, variable_told, write_told}
 
 module _ {A : Type 0} (num : A → ℕ) (long : Array → ℕ) (l : Launch) (few_rows : l.local.1 ≤ 2 ^ 31) (few : l.local.0 ≤ 2 ^ 31) (c : Cells) (b : GridBody A) (makes : MakeGridTurns b.forms num l) (given : (v : ℕ) (cs : List Bool) (p : List ℕ) → IsPosition (b.src v) cs p → IsGiven c (b.ins v cs p) (b.sources v cs p)) where
-  -- one of a row's scalars, or of a turn's, is in this variable, and is v
-  abbrev pub IsTopScalar : (i var v : ℕ) → Type 0
-  IsTopScalar i var v =
-      ((cs : List Bool) × (q : List ℕ) × IsPosition b.row_top.type cs q × (loaded_marks b.row_top.loads (b.row_top.marks (i / b.grid.columns)) 0 cs q ≡ Register var) × (b.row_top.scalars (i / b.grid.columns) cs q ≡ v))
-      ⊎ ((cs : List Bool) × (q : List ℕ) × IsPosition b.top.type cs q × (loaded_marks b.top.loads (b.top.marks i) (load_count b.row_top.loads) cs q ≡ Register var) × (b.top.scalars i cs q ≡ v))
+  -- this stands for one of a row's scalars, or of a turn's, which is v
+  abbrev pub IsTopScalar : (i : ℕ) → Mark → (v : ℕ) → Type 0
+  IsTopScalar i m v =
+      IsTurnScalar b.row_top (i / b.grid.columns) m v
+      ⊎ ((cs : List Bool) × (q : List ℕ) × IsPosition b.top.type cs q × (loaded_marks b.top.loads (b.top.marks i) (load_count b.row_top.loads) cs q ≡ m) × (b.top.scalars i cs q ≡ v))
 
   -- a cell of a local array that an earlier phase fills
   pub record IsFilledCell (q i a n v : ℕ) : Type 0 where
@@ -59,24 +62,27 @@ module _ {A : Type 0} (num : A → ℕ) (long : Array → ℕ) (l : Launch) (few
     pub is : Spot (LocalArray a) n ≡ (place_of b.out i (stage_at b.stages phase)).to choices position
     pub has : v ≡ value_in num b.sources b.out i (stage_at b.stages phase) choices position
 
-  -- at turn i before phase q, from this origin: an input's cell, such a cell, or a scalar in a variable
+  -- at turn i before phase q, from this origin: an input's cell, such a
+  -- cell, or a scalar in a variable
   abbrev pub SeenAt : Origin → (q i : ℕ) → Mark → ℕ → Type 0
   SeenAt o q i (Spot (Input a) n) v = (n < length (row c.ins a)) × (slice_index (row c.ins a) n ≡ v)
   SeenAt o q i (Spot (LocalArray a) n) v = IsFilledCell q i a n v × (plainly : Bool) × (o ≡ Within a plainly)
-  SeenAt o q i (Register r) v = IsTopScalar i r v
+  SeenAt o q i (Register r) v = IsTopScalar i (Register r) v
+  SeenAt o q i (Lane r j) v = IsTopScalar i (Lane r j) v
   SeenAt o q i _ v = ⊥
 
   -- and in phase q, which has these uses, where more may be held in variables
-  abbrev pub ReadAt : (Held : ℕ → ℕ → Type 0) → List Use → (q i : ℕ) → Mark → ℕ → Type 0
+  abbrev pub ReadAt : (Held : Mark → ℕ → Type 0) → List Use → (q i : ℕ) → Mark → ℕ → Type 0
   ReadAt Held us q i (Spot (Input a) n) v = (n < length (row c.ins a)) × (slice_index (row c.ins a) n ≡ v)
   ReadAt Held us q i (Spot (LocalArray a) n) v = IsFilledCell q i a n v × (plainly : Bool) × Among (reading a plainly) us
-  ReadAt Held us q i (Register r) v = IsTopScalar i r v ⊎ Held r v
+  ReadAt Held us q i (Register r) v = IsTopScalar i (Register r) v ⊎ Held (Register r) v
+  ReadAt Held us q i (Lane r j) v = IsTopScalar i (Lane r j) v ⊎ Held (Lane r j) v
   ReadAt Held us q i _ v = ⊥
 
   abbrev pub Sees : Origin → (q : ℕ) → Ty → (marks : (turn : ℕ) → Marks) → (scalars : (turn : ℕ) → Scalars) → Type 0
   Sees o q ty e s = (i : ℕ) → i < places b.grid → (cs : List Bool) (p : List ℕ) → IsPosition ty cs p → SeenAt (at_way o cs) q i (e i cs p) (s i cs p)
 
-  abbrev pub Reads : (Held : ℕ → ℕ → Type 0) → List Use → (q i : ℕ) → Ty → Marks → Scalars → Type 0
+  abbrev pub Reads : (Held : Mark → ℕ → Type 0) → List Use → (q i : ℕ) → Ty → Marks → Scalars → Type 0
   Reads Held us q i ty e s = (cs : List Bool) (p : List ℕ) → IsPosition ty cs p → ReadAt Held us q i (e cs p) (s cs p)
 
   seen_later : (o : Origin) (q r i : ℕ) (m : Mark) (v : ℕ) → q ≤ r → SeenAt o q i m v → SeenAt o r i m v
@@ -89,6 +95,7 @@ module _ {A : Type 0} (num : A → ℕ) (long : Array → ℕ) (l : Launch) (few
   seen_later o q r i (Spot (Output a) n) v le x = absurd x
   seen_later o q r i (Spot (Private a) n) v le x = absurd x
   seen_later o q r i (Register a) v le x = x
+  seen_later o q r i (Lane a j) v le x = x
   seen_later o q r i Nowhere v le x = absurd x
 
   seen_bent : (o : Origin) (q i : ℕ) (m : Mark) (v : ℕ) → SeenAt o q i m v → SeenAt (bent o) q i m v
@@ -97,6 +104,7 @@ module _ {A : Type 0} (num : A → ℕ) (long : Array → ℕ) (l : Launch) (few
   seen_bent o q i (Spot (Output a) n) v x = absurd x
   seen_bent o q i (Spot (Private a) n) v x = absurd x
   seen_bent o q i (Register a) v x = x
+  seen_bent o q i (Lane a j) v x = x
   seen_bent o q i Nowhere v x = absurd x
 
   pub seen_input : (o : Origin) (q i : ℕ) (m : Mark) (v : ℕ) → IsGiven c m v → SeenAt o q i m v
@@ -105,50 +113,64 @@ module _ {A : Type 0} (num : A → ℕ) (long : Array → ℕ) (l : Launch) (few
   seen_input o q i (Spot (Output a) n) v x = absurd x
   seen_input o q i (Spot (Private a) n) v x = absurd x
   seen_input o q i (Register a) v x = absurd x
+  seen_input o q i (Lane a j) v x = absurd x
   seen_input o q i Nowhere v x = absurd x
 
-  read_input : (Held : ℕ → ℕ → Type 0) (us : List Use) (q i : ℕ) (m : Mark) (v : ℕ) → IsGiven c m v → ReadAt Held us q i m v
+  read_input : (Held : Mark → ℕ → Type 0) (us : List Use) (q i : ℕ) (m : Mark) (v : ℕ) → IsGiven c m v → ReadAt Held us q i m v
   read_input Held us q i (Spot (Input a) n) v x = x
   read_input Held us q i (Spot (LocalArray a) n) v x = absurd x
   read_input Held us q i (Spot (Output a) n) v x = absurd x
   read_input Held us q i (Spot (Private a) n) v x = absurd x
   read_input Held us q i (Register a) v x = absurd x
+  read_input Held us q i (Lane a j) v x = absurd x
   read_input Held us q i Nowhere v x = absurd x
 
   -- what is seen may be read, where reads of its array are told
-  read_seen : (Held : ℕ → ℕ → Type 0) (us : List Use) (o : Origin) (q i : ℕ) (m : Mark) (v : ℕ) → ((a : ℕ) (p : Bool) → o ≡ Within a p → Among (reading a p) us) → SeenAt o q i m v → ReadAt Held us q i m v
+  read_seen : (Held : Mark → ℕ → Type 0) (us : List Use) (o : Origin) (q i : ℕ) (m : Mark) (v : ℕ) → ((a : ℕ) (p : Bool) → o ≡ Within a p → Among (reading a p) us) → SeenAt o q i m v → ReadAt Held us q i m v
   read_seen Held us o q i (Spot (Input a) n) v told x = x
   read_seen Held us o q i (Spot (LocalArray a) n) v told x = (x.0, x.1, told a x.1 x.2)
   read_seen Held us o q i (Spot (Output a) n) v told x = absurd x
   read_seen Held us o q i (Spot (Private a) n) v told x = absurd x
   read_seen Held us o q i (Register a) v told x = inl x
+  read_seen Held us o q i (Lane a j) v told x = inl x
   read_seen Held us o q i Nowhere v told x = absurd x
 
+  -- a variable of the row or of the turn
+  pub seen_top : (o : Origin) (q i : ℕ) (m : Mark) (v : ℕ) → IsVariable m → IsTopScalar i m v → SeenAt o q i m v
+  seen_top o q i (Register a) v is x = x
+  seen_top o q i (Lane a j) v is x = x
+  seen_top o q i (Spot a n) v is x = absurd is
+  seen_top o q i Nowhere v is x = absurd is
+
+  -- or one that is held
+  read_held : (Held : Mark → ℕ → Type 0) (us : List Use) (q i : ℕ) (m : Mark) (v : ℕ) → IsVariable m → Held m v → ReadAt Held us q i m v
+  read_held Held us q i (Register a) v is x = inr x
+  read_held Held us q i (Lane a j) v is x = inr x
+  read_held Held us q i (Spot a n) v is x = absurd is
+  read_held Held us q i Nowhere v is x = absurd is
+
   -- more may be held
-  read_more : (Held More : ℕ → ℕ → Type 0) (us : List Use) (q i : ℕ) (m : Mark) (v : ℕ) → ((r a : ℕ) → Held r a → More r a) → ReadAt Held us q i m v → ReadAt More us q i m v
+  read_more : (Held More : Mark → ℕ → Type 0) (us : List Use) (q i : ℕ) (m : Mark) (v : ℕ) → ((r : Mark) (a : ℕ) → Held r a → More r a) → ReadAt Held us q i m v → ReadAt More us q i m v
   read_more Held More us q i (Spot (Input a) n) v f x = x
   read_more Held More us q i (Spot (LocalArray a) n) v f x = x
   read_more Held More us q i (Spot (Output a) n) v f x = absurd x
   read_more Held More us q i (Spot (Private a) n) v f x = absurd x
-  read_more Held More us q i (Register a) v f x = held x
-    where
-      held : IsTopScalar i a v ⊎ Held a v → IsTopScalar i a v ⊎ More a v
-      held (inl y) = inl y
-      held (inr y) = inr (f a v y)
+  read_more Held More us q i (Register a) v f x = ⊎_elim (λ y. inl y) (λ y. inr (f (Register a) v y)) x
+  read_more Held More us q i (Lane a j) v f x = ⊎_elim (λ y. inl y) (λ y. inr (f (Lane a j) v y)) x
   read_more Held More us q i Nowhere v f x = absurd x
 
   -- an argument that copies nothing, of what may be read
-  reads_zipped : (Held : ℕ → ℕ → Type 0) (us : List Use) (q i n : ℕ) (x y : Ty) (e f : Marks) (s r : Scalars) → Reads Held us q i (ArrayOf n x) e s → Reads Held us q i (ArrayOf n y) f r → Reads Held us q i (ArrayOf n (PairOf x y)) (by_side (λ q. Nowhere) e f) (by_side (λ p. 0) s r)
+  reads_zipped : (Held : Mark → ℕ → Type 0) (us : List Use) (q i n : ℕ) (x y : Ty) (e f : Marks) (s r : Scalars) → Reads Held us q i (ArrayOf n x) e s → Reads Held us q i (ArrayOf n y) f r → Reads Held us q i (ArrayOf n (PairOf x y)) (by_side (λ q. Nowhere) e f) (by_side (λ p. 0) s r)
   reads_zipped Held us q i n x y e f s r a d cs [] z = absurd z
   reads_zipped Held us q i n x y e f s r a d [] (j ∷ p) z = absurd z.1
   reads_zipped Held us q i n x y e f s r a d (false ∷ cs) (j ∷ p) z = a cs (j ∷ p) z
   reads_zipped Held us q i n x y e f s r a d (true ∷ cs) (j ∷ p) z = d cs (j ∷ p) z
 
-  reads_push : (Held : ℕ → ℕ → Type 0) (us : List Use) (q i : ℕ) (g : ℕ → Ty) (env : ℕ → Marks) (sems : ℕ → Scalars) (u : Ty) (e : Marks) (s : Scalars) → Reads Held us q i u e s → ((v : ℕ) → Reads Held us q i (g v) (env v) (sems v)) → (v : ℕ) → Reads Held us q i (push u g v) (push e env v) (push s sems v)
+  reads_push : (Held : Mark → ℕ → Type 0) (us : List Use) (q i : ℕ) (g : ℕ → Ty) (env : ℕ → Marks) (sems : ℕ → Scalars) (u : Ty) (e : Marks) (s : Scalars) → Reads Held us q i u e s → ((v : ℕ) → Reads Held us q i (g v) (env v) (sems v)) → (v : ℕ) → Reads Held us q i (push u g v) (push e env v) (push s sems v)
   reads_push Held us q i g env sems u e s a d zero = a
   reads_push Held us q i g env sems u e s a d (suc v) = d v
 
-  pub looks : (Held : ℕ → ℕ → Type 0) (us : List Use) (q i : ℕ) (t : Term A) (g : ℕ → Ty) (env : ℕ → Marks) (sems : ℕ → Scalars) (ty : Ty) (k : ℕ) → IsOfInputs t → HasType num b.src g t ty → ((v : ℕ) → Reads Held us q i (g v) (env v) (sems v)) → Reads Held us q i ty (marks_in local_arrays num b.ins env k t) (scalars_of num b.sources sems t)
+  pub looks : (Held : Mark → ℕ → Type 0) (us : List Use) (q i : ℕ) (t : Term A) (g : ℕ → Ty) (env : ℕ → Marks) (sems : ℕ → Scalars) (ty : Ty) (k : ℕ) → IsOfInputs t → HasType num b.src g t ty → ((v : ℕ) → Reads Held us q i (g v) (env v) (sems v)) → Reads Held us q i ty (marks_in local_arrays num b.ins env k t) (scalars_of num b.sources sems t)
   looks Held us q i (Bound v) g env sems ty k f x e = subst (λ z. Reads Held us q i z (env v) (sems v)) (sym x) (e v)
   looks Held us q i (Source v) g env sems ty k f x e = subst (λ z. Reads Held us q i z (b.ins v) (b.sources v)) (sym x) (λ cs p z. read_input Held us q i (b.ins v cs p) (b.sources v cs p) (given v cs p z))
   looks Held us q i (Both true m n) g env sems ty k f x e =
@@ -163,13 +185,13 @@ module _ {A : Type 0} (num : A → ℕ) (long : Array → ℕ) (l : Launch) (few
   looks Held us q i _ g env sems ty k f x e = absurd (assumption)
 
   -- what is held in a row of a phase
-  abbrev pub HeldIn : Stage A → (i r : ℕ) → ℕ → ℕ → Type 0
-  HeldIn s i r var v =
+  abbrev pub HeldIn : Stage A → (i r : ℕ) → Mark → ℕ → Type 0
+  HeldIn s i r m v =
       (cs : List Bool) × (q : List ℕ) × IsPosition s.nest.row_element cs q
-      × (loaded_marks s.nest.row_loads (λ cs q. s.row_marks i cs (r ∷ q)) s.nest.variables cs q ≡ Register var)
+      × (loaded_marks s.nest.row_loads (λ cs q. s.row_marks i cs (r ∷ q)) s.nest.variables cs q ≡ m)
       × (s.row_scalars i cs (r ∷ q) ≡ v)
 
-  abbrev pub NoneHeld : ℕ → ℕ → Type 0
+  abbrev pub NoneHeld : Mark → ℕ → Type 0
   NoneHeld r v = ⊥
 
   -- a destination's type holds what a term of a type gives
@@ -188,9 +210,9 @@ module _ {A : Type 0} (num : A → ℕ) (long : Array → ℕ) (l : Launch) (few
     pub loads : LoadsScalars s.nest.loads s.nest.element
     pub typed : HasType num b.src (push s.nest.element s.nest.types) s.nest.body s.nest.result
     pub declares : Declares long s.nest.privates s.nest.body
-    pub after_top : load_count b.row_top.loads + load_count b.top.loads ≤ s.nest.variables
-    pub after_row : s.nest.variables + load_count s.nest.row_loads ≤ s.nest.inner
-    pub fits : s.nest.inner + load_count s.nest.loads + variable_count s.nest.body ≤ b.variables
+    pub after_top : AtMost (more (load_count b.row_top.loads) (load_count b.top.loads)) s.nest.variables
+    pub after_row : AtMost (more s.nest.variables (load_count s.nest.row_loads)) s.nest.inner
+    pub fits : AtMost (more (more s.nest.inner (load_count s.nest.loads)) (variable_count s.nest.body)) b.variables
     pub aimed : IsAimed (destination_type b.result s.destination) (result_type s) s.outer s.path
     pub holds : (f : ℕ) (ty : Ty) → s.destination ≡ Locals f ty → IsFlat ty × ((a : ℕ) → a < width ty → long (LocalArray (f + a)) ≡ size ty)
     pub gives : s.destination ≡ Outputs → suc q ≡ length b.stages
@@ -223,8 +245,8 @@ module _ {A : Type 0} (num : A → ℕ) (long : Array → ℕ) (l : Launch) (few
   abbrev pub SeenArgument : (q : ℕ) → Scope → Term A → Ty → Type 0
   SeenArgument q s t ty = Sees (origin_of s.origins s.locals t) q ty (marks_at s.env s.locals t) (value_of s t)
 
-  -- the place of a phase that gives a position lies in this row and column of the group, but for whole
-  -- steps
+  -- the place of a phase that gives a position lies in this row and column of
+  -- the group, but for whole steps
   abbrev pub IsOwnedAt : Stage A → List ℕ → (row column : ℕ) → Type 0
   IsOwnedAt s p r c =
       (r ≡ (first_index (s.path p) / s.nest.grid.columns) % l.local.1) × (c ≡ (first_index (s.path p) % s.nest.grid.columns) % l.local.0)
@@ -333,20 +355,10 @@ module _ {A : Type 0} (num : A → ℕ) (long : Array → ℕ) (l : Launch) (few
   not_outputs : {P : Type 0} → (f : ℕ) (u : Ty) → Locals f u ≡ Outputs → P
   not_outputs f u e = absurd (cc)
 
-  -- once scalars are loaded, each is in a variable, and all else stands as it did
-  loaded_or : (loads : LoadSet) (ty : Ty) (e : Marks) (n : ℕ) (cs : List Bool) (p : List ℕ) → LoadsScalars loads ty → IsPosition ty cs p → ((r : ℕ) × (loaded_marks loads e n cs p ≡ Register r)) ⊎ (loaded_marks loads e n cs p ≡ e cs p)
-  loaded_or Skip ty e n cs p ok x = inr refl
-  loaded_or Take ty e n cs p ok x = inl (n, refl)
-  loaded_or (EachOf x y) Scalar e n cs p ok z = absurd ok
-  loaded_or (EachOf x y) (ArrayOf m t) e n cs p ok z = absurd ok
-  loaded_or (EachOf x y) (PairOf t u) e n [] p ok z = absurd z
-  loaded_or (EachOf x y) (PairOf t u) e n (false ∷ cs) p ok z = loaded_or x t (λ ds. e (false ∷ ds)) n cs p ok.0 z
-  loaded_or (EachOf x y) (PairOf t u) e n (true ∷ cs) p ok z = loaded_or y u (λ ds. e (true ∷ ds)) (n + load_count x) cs p ok.1 z
-
   -- a map along a row, in a scope of rows
-  module _ (n : A) (loads : LoadSet) (x : Ty) (types : ℕ → Ty) (rm : ℕ → Marks) (rs : ℕ → Scalars) (env : (turn row var : ℕ) → Marks) (sems : (turn row var : ℕ) → Scalars) (k a m : ℕ) (us : List Use) (d : Destination) where
-    abbrev HeldRow : (i r : ℕ) → ℕ → ℕ → Type 0
-    HeldRow i r var v = (cs : List Bool) × (q : List ℕ) × IsPosition x cs q × (loaded_marks loads (λ cs q. rm i cs (r ∷ q)) m cs q ≡ Register var) × (rs i cs (r ∷ q) ≡ v)
+  module _ (n : A) (loads : LoadSet) (x : Ty) (types : ℕ → Ty) (rm : ℕ → Marks) (rs : ℕ → Scalars) (env : (turn row var : ℕ) → Marks) (sems : (turn row var : ℕ) → Scalars) (k a : ℕ) (m : Count) (us : List Use) (d : Destination) where
+    abbrev HeldRow : (i r : ℕ) → Mark → ℕ → Type 0
+    HeldRow i r mk v = (cs : List Bool) × (q : List ℕ) × IsPosition x cs q × (loaded_marks loads (λ cs q. rm i cs (r ∷ q)) m cs q ≡ mk) × (rs i cs (r ∷ q) ≡ v)
 
     abbrev stage : (t : Term A) (ty : Ty) → HasType num b.src types t ty → (outer path : List ℕ → List ℕ) → Stage A
     stage t ty h outer path = stages.along_stage num b.forms b.ins b.src b.sources n loads x types rm rs env sems k a m us d t ty h outer path
@@ -356,11 +368,11 @@ module _ {A : Type 0} (num : A → ℕ) (long : Array → ℕ) (l : Launch) (few
     row_value t i cs [] = 0
     row_value t i cs (r ∷ q) = scalars_of num b.sources (sems i r) t cs q
 
-    module _ (q : ℕ) (small : num n < 2 ^ 31) (scalars : LoadsScalars loads x) (top : load_count b.row_top.loads + load_count b.top.loads ≤ m) (fit : Fits d) (ends : d ≡ Outputs → suc q ≡ length b.stages)
+    module _ (q : ℕ) (small : num n < 2 ^ 31) (scalars : LoadsScalars loads x) (top : AtMost (more (load_count b.row_top.loads) (load_count b.top.loads)) m) (fit : Fits d) (ends : d ≡ Outputs → suc q ≡ length b.stages)
         (tells : (f e : ℕ) (ty : Ty) → d ≡ Locals f ty → e < width ty → Among (record { array = f + e; writes = true; aligned = false }) us)
         (rows : (i r : ℕ) → i < places b.grid → r < num n → Reads NoneHeld us q i x (at_index r (rm i)) (at_index r (rs i)))
         (envs : (v i r : ℕ) → i < places b.grid → r < num n → Reads (HeldRow i r) us q i (types v) (env i r v) (sems i r v)) where
-      along : (t : Term A) (ty : Ty) (h : HasType num b.src types t ty) (outer path : List ℕ → List ℕ) → StandsAlongRow t → IsAimed (destination_type b.result d) (ArrayOf (num n) ty) outer path → Declares long a t → m + (load_count loads + variable_count t) ≤ b.variables → IsStage q (stage t ty h outer path)
+      along : (t : Term A) (ty : Ty) (h : HasType num b.src types t ty) (outer path : List ℕ → List ℕ) → StandsAlongRow t → IsAimed (destination_type b.result d) (ArrayOf (num n) ty) outer path → Declares long a t → AtMost (more m (more (load_count loads) (variable_count t))) b.variables → IsStage q (stage t ty h outer path)
       along (Reshape y t) ty h outer path f aimed declared room = along t h.0 h.1 (λ p. outer (under (result_position num y) p)) (λ p. under (operand_position num y) (path p)) f.1 (aimed_in_row y (num n) h.0 ty (destination_type b.result d) outer path f.0 h.2 aimed) declared room
       along (Map Local n2 loads2 ys body) ty h outer path f aimed declared room = record {
         rows_made = makes.rows n small;
@@ -372,8 +384,9 @@ module _ {A : Type 0} (num : A → ℕ) (long : Array → ℕ) (l : Launch) (few
         typed = h.5;
         declares = declared.1;
         after_top = top;
-        after_row = omega arith;
-        fits = omega arith;
+        after_row = many_more (more m (load_count loads)) (variable_count ys);
+        fits = most_rest (more (more m (load_count loads)) (variable_count ys)) (load_count loads2) (variable_count body) b.variables
+            (most_rest (more m (load_count loads)) (variable_count ys) (more (load_count loads2) (variable_count body)) b.variables (most_rest m (load_count loads) (more (variable_count ys) (more (load_count loads2) (variable_count body))) b.variables room));
         aimed = aimed_flat (num n) (num n2) h.1 (destination_type b.result d) outer path (subst (λ z. IsAimed (destination_type b.result d) (ArrayOf (num n) z) outer path) h.6 aimed);
         holds = fit;
         gives = ends;
@@ -418,7 +431,7 @@ module _ {A : Type 0} (num : A → ℕ) (long : Array → ℕ) (l : Launch) (few
 
   -- a local map over rows
   module _ (q r : ℕ) (n : A) (s : Scope) (loads : LoadSet) (xs body : Term A) (x y : Ty) (d : Destination) (outer path : List ℕ → List ℕ) (small : num n < 2 ^ 31) (scalars : LoadsScalars loads x) (typed : HasType num b.src (push x s.types) body y) (le : q ≤ r) (scoped : Scoped q s) (seen : SeenArgument r s xs (ArrayOf (num n) x)) (stands : StandsAlongRow body)
-      (aimed : IsAimed (destination_type b.result d) (ArrayOf (num n) y) outer path) (fit : Fits d) (ends : d ≡ Outputs → suc r ≡ length b.stages) (declared : Declares long (s.privates + private_count xs) body) (room : s.variables + (variable_count xs + (load_count loads + variable_count body)) ≤ b.variables) (low : load_count b.row_top.loads + load_count b.top.loads ≤ s.variables) where
+      (aimed : IsAimed (destination_type b.result d) (ArrayOf (num n) y) outer path) (fit : Fits d) (ends : d ≡ Outputs → suc r ≡ length b.stages) (declared : Declares long (s.privates + private_count xs) body) (room : AtMost (more s.variables (more (variable_count xs) (more (load_count loads) (variable_count body)))) b.variables) (low : AtMost (more (load_count b.row_top.loads) (load_count b.top.loads)) s.variables) where
     abbrev from : Origin
     from = bent (origin_of s.origins s.locals xs)
 
@@ -437,8 +450,8 @@ module _ {A : Type 0} (num : A → ℕ) (long : Array → ℕ) (l : Launch) (few
     abbrev rs : ℕ → Scalars
     rs = value_of s xs
 
-    abbrev first : ℕ
-    first = s.variables + variable_count xs
+    abbrev first : Count
+    first = more s.variables (variable_count xs)
 
     loads_kept : LoadsScalars loads element
     loads_kept = element_loads loads x (ways 0 (named.named body named.whole)) scalars
@@ -452,13 +465,13 @@ module _ {A : Type 0} (num : A → ℕ) (long : Array → ℕ) (l : Launch) (few
         (among_left (reading a pl) (element_reads from (element_ways loads body)) (variable_reads s.origins (named_outside body)) (element_told from (element_ways loads body) cs a pl w.1 (way_bent o cs ∙ e))))
         (seen_bent (at_way o cs) r i (rm i cs (j ∷ p)) (rs i cs (j ∷ p)) (seen i il cs (j ∷ p) (jl, w.0)))
 
-    abbrev held_row : (i j : ℕ) → ℕ → ℕ → Type 0
-    held_row i j var v = (cs : List Bool) × (q : List ℕ) × IsPosition element cs q × (loaded_marks loads (λ cs q. rm i cs (j ∷ q)) first cs q ≡ Register var) × (rs i cs (j ∷ q) ≡ v)
+    abbrev held_row : (i j : ℕ) → Mark → ℕ → Type 0
+    held_row i j mk v = (cs : List Bool) × (q : List ℕ) × IsPosition element cs q × (loaded_marks loads (λ cs q. rm i cs (j ∷ q)) first cs q ≡ mk) × (rs i cs (j ∷ q) ≡ v)
 
     env_reads : (v i j : ℕ) → i < places b.grid → j < num n → Reads (held_row i j) its_uses r i (push element kept v) (push (loaded_marks loads (at_index j (rm i)) first) (s.env i) v) (push (at_index j (rs i)) (s.sems i) v)
     env_reads zero i j il jl cs p z =
         ⊎_elim
-        (λ reg. subst (λ mk. ReadAt (held_row i j) its_uses r i mk (rs i cs (j ∷ p))) (sym reg.1) (inr (cs, p, z, reg.1, refl)))
+        (λ is. read_held (held_row i j) its_uses r i (loaded_marks loads (at_index j (rm i)) first cs p) (rs i cs (j ∷ p)) is (cs, p, z, refl, refl))
         (λ e. subst (λ mk. ReadAt (held_row i j) its_uses r i mk (rs i cs (j ∷ p))) (sym e) (read_more NoneHeld (held_row i j) its_uses r i (rm i cs (j ∷ p)) (rs i cs (j ∷ p)) (λ u v2 w. absurd w) (row_reads i j il jl cs p z)))
         (loaded_or loads element (at_index j (rm i)) first cs p loads_kept z)
     env_reads (suc v) i j il jl cs p z =
@@ -477,8 +490,8 @@ module _ {A : Type 0} (num : A → ℕ) (long : Array → ℕ) (l : Launch) (few
 
     this_stage : IsStage r the_stage
     this_stage =
-        along n loads element (push element kept) rm rs (λ i j. push (loaded_marks loads (at_index j (rm i)) first) (s.env i)) (λ i j. push (at_index j (rs i)) (s.sems i)) (s.locals + local_count xs) (s.privates + private_count xs) first its_uses d r small loads_kept (omega arith) fit ends writes_told row_reads env_reads
-        body y (body_typed num b.src s.types loads body x y typed) outer path stands aimed declared (omega arith)
+        along n loads element (push element kept) rm rs (λ i j. push (loaded_marks loads (at_index j (rm i)) first) (s.env i)) (λ i j. push (at_index j (rs i)) (s.sems i)) (s.locals + local_count xs) (s.privates + private_count xs) first its_uses d r small loads_kept (most_later (more (load_count b.row_top.loads) (load_count b.top.loads)) s.variables (variable_count xs) low) fit ends writes_told row_reads env_reads
+        body y (body_typed num b.src s.types loads body x y typed) outer path stands aimed declared (most_rest s.variables (variable_count xs) (more (load_count loads) (variable_count body)) b.variables room)
 
     this_value : (i : ℕ) (cs : List Bool) (p : List ℕ) → IsPosition (ArrayOf (num n) y) cs (path p) → value_in num b.sources b.out i the_stage cs (the_stage.path p) ≡ value_of s (Map LocalRows n loads xs body) i cs (path p)
     this_value i cs p z = of_row (path p) refl z
@@ -499,10 +512,10 @@ module _ {A : Type 0} (num : A → ℕ) (long : Array → ℕ) (l : Launch) (few
   abbrev last_stage : (n : A) (s : Scope) (loads : LoadSet) (xs body : Term A) (x y : Ty) (d : Destination) (outer path : List ℕ → List ℕ) → HasType num b.src (push x s.types) body y → Stage A
   last_stage n s loads xs body x y d outer path typed =
       stages.along_stage num b.forms b.ins b.src b.sources n loads (cut x (element_ways loads body)) (push (cut x (element_ways loads body)) (λ v. cut (s.types v) (ways v (named_outside body)))) (marks_at s.env s.locals xs) (value_of s xs)
-      (λ i j. push (loaded_marks loads (at_index j (marks_at s.env s.locals xs i)) (s.variables + variable_count xs)) (s.env i)) (λ i j. push (at_index j (value_of s xs i)) (s.sems i)) (s.locals + local_count xs) (s.privates + private_count xs) (s.variables + variable_count xs)
+      (λ i j. push (loaded_marks loads (at_index j (marks_at s.env s.locals xs i)) (more s.variables (variable_count xs))) (s.env i)) (λ i j. push (at_index j (value_of s xs i)) (s.sems i)) (s.locals + local_count xs) (s.privates + private_count xs) (more s.variables (variable_count xs))
       (loop_uses s.origins (bent (origin_of s.origins s.locals xs)) loads body d false) d body y (body_typed num b.src s.types loads body x y typed) outer path
 
-  along_goes : (n : A) (loads : LoadSet) (x : Ty) (types : ℕ → Ty) (rm : ℕ → Marks) (rs : ℕ → Scalars) (env : (turn row var : ℕ) → Marks) (sems : (turn row var : ℕ) → Scalars) (k a m : ℕ) (us : List Use) (d : Destination) (t : Term A) (ty : Ty) (h : HasType num b.src types t ty) (outer path : List ℕ → List ℕ) → StandsAlongRow t
+  along_goes : (n : A) (loads : LoadSet) (x : Ty) (types : ℕ → Ty) (rm : ℕ → Marks) (rs : ℕ → Scalars) (env : (turn row var : ℕ) → Marks) (sems : (turn row var : ℕ) → Scalars) (k a : ℕ) (m : Count) (us : List Use) (d : Destination) (t : Term A) (ty : Ty) (h : HasType num b.src types t ty) (outer path : List ℕ → List ℕ) → StandsAlongRow t
       → (stages.along_stage num b.forms b.ins b.src b.sources n loads x types rm rs env sems k a m us d t ty h outer path).destination ≡ d
   along_goes n loads x types rm rs env sems k a m us d (Reshape y t) ty h outer path f = along_goes n loads x types rm rs env sems k a m us d t h.0 h.1 (λ p. outer (under (result_position num y) p)) (λ p. under (operand_position num y) (path p)) f.1
   along_goes n loads x types rm rs env sems k a m us d (Map Local n2 loads2 ys body) ty h outer path f = refl
@@ -510,20 +523,20 @@ module _ {A : Type 0} (num : A → ℕ) (long : Array → ℕ) (l : Launch) (few
 
   last_goes : (n : A) (s : Scope) (loads : LoadSet) (xs body : Term A) (x y : Ty) (d : Destination) (outer path : List ℕ → List ℕ) (typed : HasType num b.src (push x s.types) body y) → StandsAlongRow body → (last_stage n s loads xs body x y d outer path typed).destination ≡ d
   last_goes n s loads xs body x y d outer path typed f = along_goes n loads (cut x (element_ways loads body)) (push (cut x (element_ways loads body)) (λ v. cut (s.types v) (ways v (named_outside body)))) (marks_at s.env s.locals xs) (value_of s xs)
-      (λ i j. push (loaded_marks loads (at_index j (marks_at s.env s.locals xs i)) (s.variables + variable_count xs)) (s.env i)) (λ i j. push (at_index j (value_of s xs i)) (s.sems i)) (s.locals + local_count xs) (s.privates + private_count xs) (s.variables + variable_count xs)
+      (λ i j. push (loaded_marks loads (at_index j (marks_at s.env s.locals xs i)) (more s.variables (variable_count xs))) (s.env i)) (λ i j. push (at_index j (value_of s xs i)) (s.sems i)) (s.locals + local_count xs) (s.privates + private_count xs) (more s.variables (variable_count xs))
       (loop_uses s.origins (bent (origin_of s.origins s.locals xs)) loads body d false) d body y (body_typed num b.src s.types loads body x y typed) outer path f
 
   mutual
-    pub sees : (t : Term A) (s : Scope) (ty : Ty) (h : HasType num b.src s.types t ty) (q : ℕ) → StandsInGrid false t → Scoped q s → Stand q (argument_stages s t ty h) → Declares long s.privates t → DeclaresLocals long s.locals t → s.variables + variable_count t ≤ b.variables
-        → load_count b.row_top.loads + load_count b.top.loads ≤ s.variables → Result t s ty h q
+    pub sees : (t : Term A) (s : Scope) (ty : Ty) (h : HasType num b.src s.types t ty) (q : ℕ) → StandsInGrid false t → Scoped q s → Stand q (argument_stages s t ty h) → Declares long s.privates t → DeclaresLocals long s.locals t → AtMost (more s.variables (variable_count t)) b.variables
+        → AtMost (more (load_count b.row_top.loads) (load_count b.top.loads)) s.variables → Result t s ty h q
     sees (Bound v) s ty h q f scoped is private local room low =
         (tt, later_seen (s.origins v) q (q + 0) ty (λ i. s.env i v) (λ i. s.sems i v) (omega arith) (subst (λ z. Sees (s.origins v) q z (λ i. s.env i v) (λ i. s.sems i v)) (sym h) (scoped v)))
     sees (Source a) s ty h q f scoped is private local room low = (tt, λ i il cs p z. seen_input (at_way Elsewhere cs) (q + 0) i (b.ins a cs p) (b.sources a cs p) (given a cs p (subst (λ w. IsPosition w cs p) h z)))
     sees (Both true x y) s ty h q f scoped is private local room low =
         let xs = argument_stages s x (ArrayOf h.0 h.1) h.4 in
         let ys = argument_stages (later s x) y (ArrayOf h.0 h.2) h.5 in
-        let one = sees x s (ArrayOf h.0 h.1) h.4 q f.0 scoped (each_left (λ r t. stage_at b.stages r ≡ t) q xs ys is) private.0 local.0 (omega arith) low in
-        let two = sees y (later s x) (ArrayOf h.0 h.2) h.5 (q + length xs) f.1 (scoped_later q (q + length xs) s (omega arith) scoped) (each_right (λ r t. stage_at b.stages r ≡ t) q xs ys is) private.1 local.1 (omega arith) (omega arith) in
+        let one = sees x s (ArrayOf h.0 h.1) h.4 q f.0 scoped (each_left (λ r t. stage_at b.stages r ≡ t) q xs ys is) private.0 local.0 (most_first s.variables (variable_count x) (variable_count y) b.variables room) low in
+        let two = sees y (later s x) (ArrayOf h.0 h.2) h.5 (q + length xs) f.1 (scoped_later q (q + length xs) s (omega arith) scoped) (each_right (λ r t. stage_at b.stages r ≡ t) q xs ys is) private.1 local.1 (most_rest s.variables (variable_count x) (variable_count y) b.variables room) (most_later (more (load_count b.row_top.loads) (load_count b.top.loads)) s.variables (variable_count x) low) in
         let sum = long_append xs ys in
         let end = q + length xs + length ys in (
           each_append IsStage q xs ys one.0 two.0,
@@ -549,8 +562,8 @@ module _ {A : Type 0} (num : A → ℕ) (long : Array → ℕ) (l : Launch) (few
         let t = bound_to s v h.0 in
         let xs = argument_stages s v h.0 h.1 in
         let ys = argument_stages t x ty h.2 in
-        let one = sees v s h.0 h.1 q f.0 scoped (each_left (λ r t. stage_at b.stages r ≡ t) q xs ys is) private.0 local.0 (omega arith) low in
-        let two = sees x t ty h.2 (q + length xs) f.1 (bound_in (q + length xs) s v h.0 (scoped_later q (q + length xs) s (omega arith) scoped) one.1) (each_right (λ r t. stage_at b.stages r ≡ t) q xs ys is) private.1 local.1 (omega arith) (omega arith) in
+        let one = sees v s h.0 h.1 q f.0 scoped (each_left (λ r t. stage_at b.stages r ≡ t) q xs ys is) private.0 local.0 (most_first s.variables (variable_count v) (variable_count x) b.variables room) low in
+        let two = sees x t ty h.2 (q + length xs) f.1 (bound_in (q + length xs) s v h.0 (scoped_later q (q + length xs) s (omega arith) scoped) one.1) (each_right (λ r t. stage_at b.stages r ≡ t) q xs ys is) private.1 local.1 (most_rest s.variables (variable_count v) (variable_count x) b.variables room) (most_later (more (load_count b.row_top.loads) (load_count b.top.loads)) s.variables (variable_count v) low) in
         let sum = long_append xs ys in
         let end = q + length xs + length ys in
         let o = origin_of t.origins t.locals x in (
@@ -569,7 +582,7 @@ module _ {A : Type 0} (num : A → ℕ) (long : Array → ℕ) (l : Launch) (few
     sees _ s ty h q f scoped is private local room low = absurd (assumption)
 
     pub works : (t : Term A) (s : Scope) (ty : Ty) (h : HasType num b.src s.types t ty) (q : ℕ) (d : Destination) (outer path : List ℕ → List ℕ) → StandsInGrid true t → Scoped q s → Stand q (written_stages s t ty h d outer path)
-        → IsAimed (destination_type b.result d) ty outer path → Fits d → (d ≡ Outputs → q + length (written_stages s t ty h d outer path) ≡ length b.stages) → Declares long s.privates t → DeclaresLocals long s.locals t → s.variables + variable_count t ≤ b.variables → load_count b.row_top.loads + load_count b.top.loads ≤ s.variables
+        → IsAimed (destination_type b.result d) ty outer path → Fits d → (d ≡ Outputs → q + length (written_stages s t ty h d outer path) ≡ length b.stages) → Declares long s.privates t → DeclaresLocals long s.locals t → AtMost (more s.variables (variable_count t)) b.variables → AtMost (more (load_count b.row_top.loads) (load_count b.top.loads)) s.variables
         → Each IsStage q (written_stages s t ty h d outer path) × IsLast (q + length (written_stages s t ty h d outer path)) s t ty d path
     works (Reshape y a) s ty h q d outer path f scoped is aimed fit ends private local room low =
         let r = works a s h.0 h.1 q d (λ p. outer (result_position num y p)) (λ p. operand_position num y (path p)) f.1 scoped is (aimed_under y h.0 ty (destination_type b.result d) outer path f.0 h.2 aimed) fit ends private local room low in
@@ -578,16 +591,16 @@ module _ {A : Type 0} (num : A → ℕ) (long : Array → ℕ) (l : Launch) (few
         let t = bound_to s v h.0 in
         let xs = argument_stages s v h.0 h.1 in
         let ys = written_stages t x ty h.2 d outer path in
-        let one = sees v s h.0 h.1 q f.0 scoped (each_left (λ r t. stage_at b.stages r ≡ t) q xs ys is) private.0 local.0 (omega arith) low in
+        let one = sees v s h.0 h.1 q f.0 scoped (each_left (λ r t. stage_at b.stages r ≡ t) q xs ys is) private.0 local.0 (most_first s.variables (variable_count v) (variable_count x) b.variables room) low in
         let sum = long_append xs ys in
-        let two = works x t ty h.2 (q + length xs) d outer path f.1 (bound_in (q + length xs) s v h.0 (scoped_later q (q + length xs) s (omega arith) scoped) one.1) (each_right (λ r t. stage_at b.stages r ≡ t) q xs ys is) aimed fit (λ e. let z = ends e in omega arith) private.1 local.1 (omega arith) (omega arith) in
+        let two = works x t ty h.2 (q + length xs) d outer path f.1 (bound_in (q + length xs) s v h.0 (scoped_later q (q + length xs) s (omega arith) scoped) one.1) (each_right (λ r t. stage_at b.stages r ≡ t) q xs ys is) aimed fit (λ e. let z = ends e in omega arith) private.1 local.1 (most_rest s.variables (variable_count v) (variable_count x) b.variables room) (most_later (more (load_count b.row_top.loads) (load_count b.top.loads)) s.variables (variable_count v) low) in
         let final = two.1.ends in
         (each_append IsStage q xs ys one.0 two.0, record { at = two.1.at; ends = omega arith; goes = two.1.goes; stage = two.1.stage; value = λ i cs p z. two.1.value i cs p z; place = λ cs p z. two.1.place cs p z })
     works (Map LocalRows n loads xs body) s ty h q d outer path f scoped is aimed fit ends private local room low =
         let ss = argument_stages s xs (ArrayOf (num n) h.0) h.4 in
         let r = q + length ss in
         let aimed2 = subst (λ z. IsAimed (destination_type b.result d) z outer path) h.6 aimed in
-        let one = sees xs s (ArrayOf (num n) h.0) h.4 q f.0 scoped (each_left (λ r t. stage_at b.stages r ≡ t) q ss (last_stage n s loads xs body h.0 h.1 d outer path h.5 ∷ []) is) private.0 local (omega arith) low in
+        let one = sees xs s (ArrayOf (num n) h.0) h.4 q f.0 scoped (each_left (λ r t. stage_at b.stages r ≡ t) q ss (last_stage n s loads xs body h.0 h.1 d outer path h.5 ∷ []) is) private.0 local (most_first s.variables (variable_count xs) (more (load_count loads) (variable_count body)) b.variables room) low in
         let sum = long_append ss (last_stage n s loads xs body h.0 h.1 d outer path h.5 ∷ []) in
         let here : stage_at b.stages r ≡ last_stage n s loads xs body h.0 h.1 d outer path h.5 = (each_right (λ r t. stage_at b.stages r ≡ t) q ss (last_stage n s loads xs body h.0 h.1 d outer path h.5 ∷ []) is).0 in
         let this = this_stage q r n s loads xs body h.0 h.1 d outer path h.2 h.3 h.5 (omega arith) scoped one.1 f.1 aimed2 fit (λ e. let z = ends e in omega arith) private.1 room low in (

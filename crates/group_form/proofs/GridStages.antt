@@ -10,7 +10,7 @@ use Rattle.lift_ir.specs.Layouts.{operand_position, result_position}
 use Rattle.lift_ir.specs.Terms.{LoadSet, Skip, Term, Literal, Both, Project, Reshape, LetArray, Map, Copy, push, HasType, no_type}
 use Rattle.lift_ir.specs.Scalars.{Scalars, at_index, scalars_of}
 use Rattle.printed_form.specs.Arguments.{marks_in, local_arrays}
-use Rattle.printed_form.specs.Counts.{load_count, variable_count, private_count, local_count}
+use Rattle.printed_form.specs.Counts.{Count, more, no_variables, load_count, variable_count, private_count, local_count}
 use Rattle.printed_form.specs.MapForms.{MapForm, Looped}
 use Rattle.printed_form.specs.Marks.{Nowhere, Marks, loaded_marks}
 use Rattle.group_phases.specs.GridPhases.{GridList}
@@ -70,8 +70,8 @@ no_stage = record {
     element = Scalar;
     result = Scalar;
     types = no_type;
-    variables = 0;
-    inner = 0;
+    variables = no_variables;
+    inner = no_variables;
     privates = 0;
   };
   locals = 0;
@@ -107,7 +107,7 @@ place_of out i s = record {
 
 module _ {A : Type 0} (num : A → ℕ) (forms : GridForms A) (ins : ℕ → Marks) (src : ℕ → Ty) (sources : ℕ → Scalars) where
   -- of a map along a row, in a scope of rows, where the rows' scalars are in variables from this on
-  abbrev pub along_stage : (n : A) → LoadSet → (row_element : Ty) → (types : ℕ → Ty) → (row_marks : ℕ → Marks) → (row_scalars : ℕ → Scalars) → (env : (turn row var : ℕ) → Marks) → (sems : (turn row var : ℕ) → Scalars) → (locals privates variables : ℕ) → List Use → Destination
+  abbrev pub along_stage : (n : A) → LoadSet → (row_element : Ty) → (types : ℕ → Ty) → (row_marks : ℕ → Marks) → (row_scalars : ℕ → Scalars) → (env : (turn row var : ℕ) → Marks) → (sems : (turn row var : ℕ) → Scalars) → (locals privates : ℕ) → (variables : Count) → List Use → Destination
       → (t : Term A) (ty : Ty) → HasType num src types t ty → (outer path : List ℕ → List ℕ) → Stage A
   along_stage n loads x types rm rs env sems k a m us d (Reshape y t) ty h outer path =
       along_stage n loads x types rm rs env sems k a m us d t h.0 h.1 (λ p. outer (under (result_position num y) p)) (λ p. under (operand_position num y) (path p))
@@ -124,7 +124,7 @@ module _ {A : Type 0} (num : A → ℕ) (forms : GridForms A) (ins : ℕ → Mar
       result = h.1;
       types = types;
       variables = m;
-      inner = m + load_count loads + variable_count ys;
+      inner = more (more m (load_count loads)) (variable_count ys);
       privates = a + private_count ys;
     };
     locals = k;
@@ -159,8 +159,8 @@ module _ {A : Type 0} (num : A → ℕ) (forms : GridForms A) (ins : ℕ → Mar
     written_stages s (Map kind n loads xs b) ty h d outer path =
         argument_stages s xs (ArrayOf (num n) h.0) h.4
         ++ along_stage n loads (cut h.0 (element_ways loads b)) (push (cut h.0 (element_ways loads b)) (λ v. cut (s.types v) (ways v (named_outside b)))) (marks_of num ins s.env s.locals xs) (λ i. scalars_of num sources (s.sems i) xs)
-        (λ i r. push (loaded_marks loads (at_index r (marks_of num ins s.env s.locals xs i)) (s.variables + variable_count xs)) (s.env i)) (λ i r. push (at_index r (scalars_of num sources (s.sems i) xs)) (s.sems i))
-        (s.locals + local_count xs) (s.privates + private_count xs) (s.variables + variable_count xs) (loop_uses s.origins (bent (origin_of s.origins s.locals xs)) loads b d false) d
+        (λ i r. push (loaded_marks loads (at_index r (marks_of num ins s.env s.locals xs i)) (more s.variables (variable_count xs))) (s.env i)) (λ i r. push (at_index r (scalars_of num sources (s.sems i) xs)) (s.sems i))
+        (s.locals + local_count xs) (s.privates + private_count xs) (more s.variables (variable_count xs)) (loop_uses s.origins (bent (origin_of s.origins s.locals xs)) loads b d false) d
         b h.1 (body_typed num src s.types loads b h.0 h.1 h.5) outer path ∷ []
     written_stages s _ ty h d outer path = []
 
@@ -196,7 +196,7 @@ pub record GridBody (A : Type 0) : Type 0 where
   pub grid : Grid
   pub rows_form : MapForm
   pub columns_form : MapForm
-  pub variables : ℕ
+  pub variables : Count
   pub forms : GridForms A
   pub ins : ℕ → Marks
   pub src : ℕ → Ty

@@ -14,86 +14,52 @@ use Rattle.barrier_placement.specs.Conflicts as placed
 use Rattle.barrier_placement.specs.Fencing.{Fencing, Open}
 use Rattle.barrier_placement.specs.Separates.{Separates}
 use Rattle.lift_ir.specs.Types.{Ty, Scalar, PairOf, ArrayOf, IsPosition, IsFlat, width, size, unflat}
-use Rattle.lift_ir.specs.Layouts.{Layout, Split, Join, Transpose, Reverse, Slide, Pad, operand_position, result_position, Reshapes}
-use Rattle.lift_ir.specs.Terms.{LoadSet, Skip, Take, Each, WorkGroup, WorkGroupRows, LocalMemory, Term, Bound, Source, Both, Project, Reshape, LetArray, Map, LoadsScalars, push, HasType, no_type}
+use Rattle.lift_ir.specs.Layouts.{operand_position, result_position}
+use Rattle.lift_ir.specs.Terms.{LoadSet, WorkGroup, WorkGroupRows, LocalMemory, Term, Bound, Source, Both, Project, Reshape, LetArray, Map, LoadsScalars, push, HasType, no_type}
 use Rattle.lift_ir.specs.Scalars.{Scalars, by_side, at_index, scalars_of, no_scalars, AreLists}
 use Rattle.lift_ir.specs.Owner.{local_row_owner, column_owner, owner}
 use Rattle.lift_ir.proofs.Owner.{owner_below}
 use Rattle.lift_ir.proofs.Positions.{operand_in, result_in}
-use Rattle.printed_form.specs.Counts.{load_count, variable_count, private_count, copy_lengths}
+use Rattle.printed_form.specs.Counts.{more, no_variables, AtMost, load_count, variable_count, private_count, copy_lengths}
 use Rattle.printed_form.specs.Headline.{EveryRunKeeps}
 use Rattle.printed_form.specs.MapForms.{form_over_groups, variables_in}
-use Rattle.printed_form.specs.Marks.{Nowhere, Register, Marks, laid_in, loaded_marks}
+use Rattle.printed_form.specs.Marks.{Mark, Nowhere, Marks, laid_in, loaded_marks}
 use Rattle.printed_form.specs.Form.{Declares, IsLoaded, argument_marks}
 use Rattle.printed_form.specs.Whole.{no_marks, IsGiven}
 use Rattle.printed_form.proofs.Lengths.{AreLong, declares}
+use Rattle.printed_form.proofs.Runs.{at_most, as_many}
 use Rattle.group_phases.specs.Epochs.{IsPast}
 use Rattle.group_phases.specs.GridPhases.{IsGroupRow}
 use Rattle.group_phases.specs.GridPrinted.{IsGridKernel, IsGridPhased, GridPhasesKeep, GridPhasesServe}
 use Rattle.group_phases.specs.Grids.{Grid, places}
+use Rattle.group_phases.specs.Groups.{declared}
 use Rattle.group_phases.specs.Outcome.{BarriersServeAll}
+use Rattle.group_phases.specs.Phases.{TurnElement}
 use Rattle.group_phases.specs.Strides.{MakesTurnsBy, statement_of}
 use Rattle.group_phases.proofs.Grids.{some_factor}
+use Rattle.group_phases.proofs.Held.{loaded_or}
 use Rattle.group_phases.proofs.TurnForms.{below}
 use Rattle.group_form.specs.Body.{first_index}
 use Rattle.group_form.specs.Forms.{IsOfInputs}
 use Rattle.group_form.specs.GridForm.{IsAlongGroups, IsOverGrid}
 use Rattle.group_form.specs.GridTerms.{GridForms, StandsInGrid, StandsAlongGroups, StandsOverGrid, row_uses, grid_uses}
 use Rattle.group_form.specs.GridTheorem.{MakeGridTurns, is_once_along, is_once_over, phases_along, grid_phase_count, IsPrintedOverGrid, AreApartOverGrid}
-use Rattle.group_form.specs.Origins.{Elsewhere, at_way}
+use Rattle.group_form.specs.Origins.{Origin, Elsewhere, at_way}
 use Rattle.group_form.specs.Stages.{Scope}
 use Rattle.group_form.specs.Uses.{Use, Locals, Outputs, numbered}
 use Rattle.group_form.specs.Whole.{DeclaresLocals}
-use Rattle.group_form.proofs.Copies.{inputs_no_copies, inputs_no_privates, inputs_no_variables}
+use Rattle.group_form.proofs.Copies.{inputs_no_copies, inputs_no_privates}
 use Rattle.group_form.proofs.GridCode as code
 use Rattle.group_form.proofs.GridCopies.{declares_locals}
 use Rattle.group_form.proofs.GridCounters.{written_chain, written_uses_are}
 use Rattle.group_form.proofs.GridOutputs.{goes_out, item_is, laid_flat, laid_in_row}
 use Rattle.group_form.proofs.GridPhased as phased
-use Rattle.group_form.proofs.GridPhased.{group_for}
 use Rattle.group_form.proofs.GridSight as sight
 use Rattle.group_form.proofs.GridStages as stages
-use Rattle.group_form.proofs.GridStages.{Stage, GridBody, stage_at, value_in, uses_of, grid_list, item_in, under, split_up, joined_up, each_at, each_from}
+use Rattle.group_form.proofs.GridStages.{Stage, GridBody, stage_at, value_in, uses_of, grid_list, under, split_up, joined_up, each_at, each_from}
+use Rattle.group_form.proofs.Most.{most_rest, most_second, most_without}
 use Rattle.group_form.proofs.Outputs.{IsLaid, laid_under, laid_itself}
-
--- once scalars are loaded, each is in a variable, and all else stands as it did
-loaded_or : (loads : LoadSet) (ty : Ty) (e : Marks) (n : ℕ) (cs : List Bool) (p : List ℕ) → LoadsScalars loads ty → IsPosition ty cs p → ((r : ℕ) × (loaded_marks loads e n cs p ≡ Register r)) ⊎ (loaded_marks loads e n cs p ≡ e cs p)
-loaded_or Skip ty e n cs p ok x = inr refl
-loaded_or Take ty e n cs p ok x = inl (n, refl)
-loaded_or (Each a b) Scalar e n cs p ok x = absurd ok
-loaded_or (Each a b) (ArrayOf m t) e n cs p ok x = absurd ok
-loaded_or (Each a b) (PairOf t u) e n [] p ok x = absurd x
-loaded_or (Each a b) (PairOf t u) e n (false ∷ cs) p ok x = loaded_or a t (λ ds. e (false ∷ ds)) n cs p ok.0 x
-loaded_or (Each a b) (PairOf t u) e n (true ∷ cs) p ok x = loaded_or b u (λ ds. e (true ∷ ds)) (n + load_count a) cs p ok.1 x
-
--- of an array's elements none is loaded
-unloaded : (loads : LoadSet) (ty : Ty) (e : Marks) (n : ℕ) (cs : List Bool) (i : ℕ) (p : List ℕ) → LoadsScalars loads ty → IsPosition ty cs (i ∷ p) → loaded_marks loads e n cs (i ∷ p) ≡ e cs (i ∷ p)
-unloaded Skip ty e n cs i p ok x = refl
-unloaded Take Scalar e n [] i p ok x = absurd x
-unloaded Take Scalar e n (s ∷ cs) i p ok x = absurd x
-unloaded Take (PairOf a b) e n cs i p ok x = absurd ok
-unloaded Take (ArrayOf m t) e n cs i p ok x = absurd ok
-unloaded (Each a b) Scalar e n cs i p ok x = absurd ok
-unloaded (Each a b) (ArrayOf m t) e n cs i p ok x = absurd ok
-unloaded (Each a b) (PairOf t u) e n [] i p ok x = absurd x
-unloaded (Each a b) (PairOf t u) e n (false ∷ cs) i p ok x = unloaded a t (λ ds. e (false ∷ ds)) n cs i p ok.0 x
-unloaded (Each a b) (PairOf t u) e n (true ∷ cs) i p ok x = unloaded b u (λ ds. e (true ∷ ds)) (n + load_count a) cs i p ok.1 x
-
--- what has a layout is an array
-of_array : {A : Type 0} (num : A → ℕ) (y : Layout A) (u ty : Ty) (cs : List Bool) → Reshapes num y u ty → IsPosition u cs [] → ⊥
-of_array num y (ArrayOf n t) ty cs r x = x
-of_array num (Split m) Scalar ty cs r x = r
-of_array num (Join m) Scalar ty cs r x = r
-of_array num Transpose Scalar ty cs r x = r
-of_array num (Reverse m) Scalar ty cs r x = r
-of_array num (Slide m s) Scalar ty cs r x = r
-of_array num (Pad m s n) Scalar ty cs r x = r
-of_array num (Split m) (PairOf a b) ty cs r x = r
-of_array num (Join m) (PairOf a b) ty cs r x = r
-of_array num Transpose (PairOf a b) ty cs r x = r
-of_array num (Reverse m) (PairOf a b) ty cs r x = r
-of_array num (Slide m s) (PairOf a b) ty cs r x = r
-of_array num (Pad m s n) (PairOf a b) ty cs r x = r
+use Rattle.group_form.proofs.Seen.{IsTurnScalar}
 
 factor_low : (g n m : ℕ) → g ≡ m * n → 0 < g → n ≤ g
 factor_low g n zero e h = let z : 0 * n ≡ 0 = omega arith in absurd (omega arith)
@@ -118,12 +84,12 @@ module _ {A : Type 0} (num : A → ℕ) (forms : GridForms A) (k : Kernel) (l : 
     pub printed : fence 0 ≡ Open → IsGridKernel num k l (grid_list num l c lists body) fence
 
 module _ {A : Type 0} (num : A → ℕ) (forms : GridForms A) (k : Kernel) (l : Launch) (c : Cells) (lists : List (List ℕ)) (ins : ℕ → Marks) (src : ℕ → Ty) (sources : ℕ → Scalars) (whole : Ty) (value : Scalars) (fence : ℕ → Fencing) where
-  abbrev Given : Ty → Marks → Scalars → Type 0
-  Given ty e s = (cs : List Bool) (p : List ℕ) → IsPosition ty cs p → IsGiven c (e cs p) (s cs p)
+  -- all scalars of what stands for a value are so
+  abbrev Has : (P : Mark → ℕ → Type 0) → Ty → Marks → Scalars → Type 0
+  Has P ty e s = (cs : List Bool) (p : List ℕ) → IsPosition ty cs p → P (e cs p) (s cs p)
 
-  -- of what lies in arrays
-  abbrev GivenIn : Ty → Marks → Scalars → Type 0
-  GivenIn ty e s = (cs : List Bool) (i : ℕ) (p : List ℕ) → IsPosition ty cs (i ∷ p) → IsGiven c (e cs (i ∷ p)) (s cs (i ∷ p))
+  abbrev Given : Ty → Marks → Scalars → Type 0
+  Given = Has (IsGiven c)
 
   -- what is the same for all parts of the term
   pub record Common : Type 0 where
@@ -179,69 +145,45 @@ module _ {A : Type 0} (num : A → ℕ) (forms : GridForms A) (k : Kernel) (l : 
     abbrev AllGiven : (ℕ → Ty) → (ℕ → Marks) → (ℕ → Scalars) → Type 0
     AllGiven g env sems = (v : ℕ) → Given (g v) (env v) (sems v)
 
-    abbrev AllIn : (ℕ → Ty) → (ℕ → Marks) → (ℕ → Scalars) → Type 0
-    AllIn g env sems = (v : ℕ) → GivenIn (g v) (env v) (sems v)
+    -- an argument of inputs has what inputs and binders have
+    module _ (P : Mark → ℕ → Type 0) (inputs : (v : ℕ) → Has P (src v) (ins v) (sources v)) where
+      has_push : (g : ℕ → Ty) (env : ℕ → Marks) (sems : ℕ → Scalars) (u : Ty) (e : Marks) (s : Scalars) → Has P u e s → ((v : ℕ) → Has P (g v) (env v) (sems v)) → (v : ℕ) → Has P (push u g v) (push e env v) (push s sems v)
+      has_push g env sems u e s a b zero = a
+      has_push g env sems u e s a b (suc v) = b v
+
+      zipped : (n : ℕ) (x y : Ty) (e f : Marks) (s r : Scalars) → Has P (ArrayOf n x) e s → Has P (ArrayOf n y) f r → Has P (ArrayOf n (PairOf x y)) (by_side (λ q. Nowhere) e f) (by_side (λ p. 0) s r)
+      zipped n x y e f s r a b cs [] z = absurd z
+      zipped n x y e f s r a b [] (j ∷ p) z = absurd z.1
+      zipped n x y e f s r a b (false ∷ cs) (j ∷ p) z = a cs (j ∷ p) z
+      zipped n x y e f s r a b (true ∷ cs) (j ∷ p) z = b cs (j ∷ p) z
+
+      input_has : (t : Term A) (g : ℕ → Ty) (env : ℕ → Marks) (sems : ℕ → Scalars) (ty : Ty) (a : ℕ) → IsOfInputs t → HasType num src g t ty → ((v : ℕ) → Has P (g v) (env v) (sems v)) → Has P ty (argument_marks l ins num env a t) (scalars_of num sources sems t)
+      input_has (Bound v) g env sems ty a f x e = subst (λ z. Has P z (env v) (sems v)) (sym x) (e v)
+      input_has (Source v) g env sems ty a f x e = subst (λ z. Has P z (ins v) (sources v)) (sym x) (inputs v)
+      input_has (Both true m n) g env sems ty a f x e =
+          subst (λ z. Has P z (argument_marks l ins num env a (Both true m n)) (scalars_of num sources sems (Both true m n))) (sym x.3)
+          (zipped x.0 x.1 x.2 (argument_marks l ins num env a m) (argument_marks l ins num env (a + private_count m) n) (scalars_of num sources sems m) (scalars_of num sources sems n) (input_has m g env sems (ArrayOf x.0 x.1) a f.0 x.4 e) (input_has n g env sems (ArrayOf x.0 x.2) (a + private_count m) f.1 x.5 e))
+      input_has (Project false m) g env sems ty a f x e = λ cs p z. input_has m g env sems (PairOf ty x.0) a f x.1 e (false ∷ cs) p z
+      input_has (Project true m) g env sems ty a f x e = λ cs p z. input_has m g env sems (PairOf x.0 ty) a f x.1 e (true ∷ cs) p z
+      input_has (Reshape y m) g env sems ty a f x e = λ cs p z. input_has m g env sems x.0 a f x.1 e cs (operand_position num y p) (operand_in num y x.0 ty cs p x.2 z)
+      input_has (LetArray v b) g env sems ty a f x e =
+          input_has b (push x.0 g) (push (argument_marks l ins num env a v) env) (push (scalars_of num sources sems v) sems) ty (a + private_count v) f.1 x.2
+          (has_push g env sems x.0 (argument_marks l ins num env a v) (scalars_of num sources sems v) (input_has v g env sems x.0 a f.0 x.1 e) e)
+      input_has _ g env sems ty a f x e = absurd (assumption)
 
     given_push : (g : ℕ → Ty) (env : ℕ → Marks) (sems : ℕ → Scalars) (u : Ty) (e : Marks) (s : Scalars) → Given u e s → AllGiven g env sems → AllGiven (push u g) (push e env) (push s sems)
-    given_push g env sems u e s a b zero = a
-    given_push g env sems u e s a b (suc v) = b v
+    given_push = has_push (IsGiven c) h.inputs
 
-    in_push : (g : ℕ → Ty) (env : ℕ → Marks) (sems : ℕ → Scalars) (u : Ty) (e : Marks) (s : Scalars) → GivenIn u e s → AllIn g env sems → AllIn (push u g) (push e env) (push s sems)
-    in_push g env sems u e s a b zero = a
-    in_push g env sems u e s a b (suc v) = b v
-
-    zipped : (n : ℕ) (x y : Ty) (e f : Marks) (s r : Scalars) → Given (ArrayOf n x) e s → Given (ArrayOf n y) f r → Given (ArrayOf n (PairOf x y)) (by_side (λ q. Nowhere) e f) (by_side (λ p. 0) s r)
-    zipped n x y e f s r a b cs [] z = absurd z
-    zipped n x y e f s r a b [] (j ∷ p) z = absurd z.1
-    zipped n x y e f s r a b (false ∷ cs) (j ∷ p) z = a cs (j ∷ p) z
-    zipped n x y e f s r a b (true ∷ cs) (j ∷ p) z = b cs (j ∷ p) z
-
-    zipped_in : (n : ℕ) (x y : Ty) (e f : Marks) (s r : Scalars) → GivenIn (ArrayOf n x) e s → GivenIn (ArrayOf n y) f r → GivenIn (ArrayOf n (PairOf x y)) (by_side (λ q. Nowhere) e f) (by_side (λ p. 0) s r)
-    zipped_in n x y e f s r a b [] j p z = absurd z.1
-    zipped_in n x y e f s r a b (false ∷ cs) j p z = a cs j p z
-    zipped_in n x y e f s r a b (true ∷ cs) j p z = b cs j p z
-
-    -- an argument of inputs is given
     input_given : (t : Term A) (g : ℕ → Ty) (env : ℕ → Marks) (sems : ℕ → Scalars) (ty : Ty) (a : ℕ) → IsOfInputs t → HasType num src g t ty → AllGiven g env sems → Given ty (argument_marks l ins num env a t) (scalars_of num sources sems t)
-    input_given (Bound v) g env sems ty a f x e = subst (λ z. Given z (env v) (sems v)) (sym x) (e v)
-    input_given (Source v) g env sems ty a f x e = subst (λ z. Given z (ins v) (sources v)) (sym x) (h.inputs v)
-    input_given (Both true m n) g env sems ty a f x e =
-        subst (λ z. Given z (argument_marks l ins num env a (Both true m n)) (scalars_of num sources sems (Both true m n))) (sym x.3)
-        (zipped x.0 x.1 x.2 (argument_marks l ins num env a m) (argument_marks l ins num env (a + private_count m) n) (scalars_of num sources sems m) (scalars_of num sources sems n) (input_given m g env sems (ArrayOf x.0 x.1) a f.0 x.4 e) (input_given n g env sems (ArrayOf x.0 x.2) (a + private_count m) f.1 x.5 e))
-    input_given (Project false m) g env sems ty a f x e = λ cs p z. input_given m g env sems (PairOf ty x.0) a f x.1 e (false ∷ cs) p z
-    input_given (Project true m) g env sems ty a f x e = λ cs p z. input_given m g env sems (PairOf x.0 ty) a f x.1 e (true ∷ cs) p z
-    input_given (Reshape y m) g env sems ty a f x e = λ cs p z. input_given m g env sems x.0 a f x.1 e cs (operand_position num y p) (operand_in num y x.0 ty cs p x.2 z)
-    input_given (LetArray v b) g env sems ty a f x e =
-        input_given b (push x.0 g) (push (argument_marks l ins num env a v) env) (push (scalars_of num sources sems v) sems) ty (a + private_count v) f.1 x.2
-        (given_push g env sems x.0 (argument_marks l ins num env a v) (scalars_of num sources sems v) (input_given v g env sems x.0 a f.0 x.1 e) e)
-    input_given _ g env sems ty a f x e = absurd (assumption)
-
-    given_of_in : (u : Ty) (e : Marks) (s : Scalars) → ((cs : List Bool) → IsPosition u cs [] → ⊥) → GivenIn u e s → Given u e s
-    given_of_in u e s none g cs [] z = absurd (none cs z)
-    given_of_in u e s none g cs (i ∷ q) z = g cs i q z
-
-    -- so it is of what lies in arrays, where that alone is given
-    input_in : (t : Term A) (g : ℕ → Ty) (env : ℕ → Marks) (sems : ℕ → Scalars) (ty : Ty) (a : ℕ) → IsOfInputs t → HasType num src g t ty → AllIn g env sems → GivenIn ty (argument_marks l ins num env a t) (scalars_of num sources sems t)
-    input_in (Bound v) g env sems ty a f x e = subst (λ z. GivenIn z (env v) (sems v)) (sym x) (e v)
-    input_in (Source v) g env sems ty a f x e = subst (λ z. GivenIn z (ins v) (sources v)) (sym x) (λ cs i p z. h.inputs v cs (i ∷ p) z)
-    input_in (Both true m n) g env sems ty a f x e =
-        subst (λ z. GivenIn z (argument_marks l ins num env a (Both true m n)) (scalars_of num sources sems (Both true m n))) (sym x.3)
-        (zipped_in x.0 x.1 x.2 (argument_marks l ins num env a m) (argument_marks l ins num env (a + private_count m) n) (scalars_of num sources sems m) (scalars_of num sources sems n) (input_in m g env sems (ArrayOf x.0 x.1) a f.0 x.4 e) (input_in n g env sems (ArrayOf x.0 x.2) (a + private_count m) f.1 x.5 e))
-    input_in (Project false m) g env sems ty a f x e = λ cs i p z. input_in m g env sems (PairOf ty x.0) a f x.1 e (false ∷ cs) i p z
-    input_in (Project true m) g env sems ty a f x e = λ cs i p z. input_in m g env sems (PairOf x.0 ty) a f x.1 e (true ∷ cs) i p z
-    input_in (Reshape y m) g env sems ty a f x e = λ cs i p z. given_of_in x.0 (argument_marks l ins num env a m) (scalars_of num sources sems m) (λ ds w. of_array num y x.0 ty ds x.2 w) (input_in m g env sems x.0 a f x.1 e) cs (operand_position num y (i ∷ p)) (operand_in num y x.0 ty cs (i ∷ p) x.2 z)
-    input_in (LetArray v b) g env sems ty a f x e =
-        input_in b (push x.0 g) (push (argument_marks l ins num env a v) env) (push (scalars_of num sources sems v) sems) ty (a + private_count v) f.1 x.2
-        (in_push g env sems x.0 (argument_marks l ins num env a v) (scalars_of num sources sems v) (input_in v g env sems x.0 a f.0 x.1 e) e)
-    input_in _ g env sems ty a f x e = absurd (assumption)
+    input_given = input_has (IsGiven c) h.inputs
 
     abbrev long : Array → ℕ
     long = length_in k c
 
     -- a map over rows of groups
     module _ (g : ℕ → Ty) (env : ℕ → Marks) (sems : ℕ → Scalars) (n : A) (loads : LoadSet) (xs : Term A) (x : Ty) (owner_at : List ℕ → ℕ) (within : (p : List ℕ) → owner_at p < item_count l) (small : num n < 2 ^ 31) (ok : LoadsScalars loads x) (given : AllGiven g env sems)
-        (given_rows : GivenIn (ArrayOf (num n) x) (argument_marks l ins num env 0 xs) (scalars_of num sources sems xs)) (bound : Formula) (row_body row_rest : Code) (row_code : k.code ≡ statement_of (form_over_groups (forms.rows.once n)) (FromGroupId Y) (ByGroupCount Y) bound row_body) (bound_is : bound_value l.sizes bound ≡ Some (num n))
-        (row_loads : (item r : ℕ) → item < item_count l → r < num n → IsGroupRow l item r → IsLoaded l item ins (variables_in (form_over_groups (forms.rows.once n)) [] r) loads (at_index r (argument_marks l ins num env 0 xs)) 0 row_body row_rest) where
+        (given_rows : Given (ArrayOf (num n) x) (argument_marks l ins num env 0 xs) (scalars_of num sources sems xs)) (bound : Formula) (row_body row_rest : Code) (row_code : k.code ≡ statement_of (form_over_groups (forms.rows.once n)) (FromGroupId Y) (ByGroupCount Y) bound row_body) (bound_is : bound_value l.sizes bound ≡ Some (num n))
+        (row_loads : (item r : ℕ) → item < item_count l → r < num n → IsGroupRow l item r → IsLoaded l item ins (variables_in (form_over_groups (forms.rows.once n)) [] r) loads (at_index r (argument_marks l ins num env 0 xs)) no_variables row_body row_rest) where
       abbrev marks : Marks
       marks = argument_marks l ins num env 0 xs
 
@@ -249,7 +191,7 @@ module _ {A : Type 0} (num : A → ℕ) (forms : GridForms A) (k : Kernel) (l : 
       scalars = scalars_of num sources sems xs
 
       abbrev row_env : (row var : ℕ) → Marks
-      row_env r = push (loaded_marks loads (at_index r marks) 0) env
+      row_env r = push (loaded_marks loads (at_index r marks) no_variables) env
 
       abbrev row_sems : (row var : ℕ) → Scalars
       row_sems r = push (at_index r scalars) sems
@@ -260,9 +202,16 @@ module _ {A : Type 0} (num : A → ℕ) (forms : GridForms A) (k : Kernel) (l : 
       abbrev owned : (array index : ℕ) → ℕ
       owned a m = owner_at (unflat whole m)
 
-      rows_in : (r : ℕ) → r < num n → AllIn row_types (row_env r) (row_sems r)
-      rows_in r rl zero cs i p z = subst (λ m. IsGiven c m (scalars cs (r ∷ i ∷ p))) (sym (unloaded loads x (at_index r marks) 0 cs i p ok z)) (given_rows cs r (i ∷ p) (rl, z))
-      rows_in r rl (suc v) cs i p z = given v cs (i ∷ p) z
+      abbrev row_top : TurnElement
+      row_top = record { loads = loads; type = x; marks = λ r. at_index r marks; scalars = λ r. at_index r scalars }
+
+      -- an input's cell, or a scalar that the row holds
+      abbrev InRow : (row : ℕ) → Mark → ℕ → Type 0
+      InRow r m v = IsGiven c m v ⊎ IsTurnScalar row_top r m v
+
+      rows_in : (r v : ℕ) → Has (InRow r) (row_types v) (row_env r v) (row_sems r v)
+      rows_in r zero cs p z = inr (cs, p, z, refl, refl)
+      rows_in r (suc v) cs p z = inl (given v cs p z)
 
       -- along a row of groups
       module _ (m : A) (loads2 : LoadSet) (ys b : Term A) (x2 y : Ty) (outer path : List ℕ → List ℕ) (typed : HasType num src (push x2 row_types) b y) where
@@ -284,7 +233,7 @@ module _ {A : Type 0} (num : A → ℕ) (forms : GridForms A) (k : Kernel) (l : 
           sems = λ i. push (turn_scalars i) (row_sems (i / M));
           types = push x2 row_types;
           origins = λ v. Elsewhere;
-          variables = load_count loads + load_count loads2;
+          variables = more (load_count loads) (load_count loads2);
           privates = 0;
           locals = 0;
         }
@@ -301,12 +250,12 @@ module _ {A : Type 0} (num : A → ℕ) (forms : GridForms A) (k : Kernel) (l : 
           grid = grid;
           rows_form = form_over_groups (forms.rows.once n);
           columns_form = form_over_groups (forms.columns.once m);
-          variables = load_count loads + load_count loads2 + variable_count b;
+          variables = more (more (load_count loads) (load_count loads2)) (variable_count b);
           forms = forms;
           ins = ins;
           src = src;
           sources = sources;
-          row_top = record { loads = loads; type = x; marks = λ r. at_index r marks; scalars = λ r. at_index r scalars };
+          row_top = row_top;
           top = record { loads = loads2; type = x2; marks = turn_marks; scalars = turn_scalars };
           out = λ cs p. laid_in Output 0 whole cs (outer_flat p);
           result = y;
@@ -329,21 +278,33 @@ module _ {A : Type 0} (num : A → ℕ) (forms : GridForms A) (k : Kernel) (l : 
         column_of_turn i il = mod-lt i (some_factor i (num n) M il)
 
         module _ (ok2 : LoadsScalars loads2 x2) (inputs2 : IsOfInputs ys) (typed_ys : HasType num src row_types ys (ArrayOf M x2)) (stands : StandsInGrid true b) where
-          turns_given : (i : ℕ) → i < places grid → Given x2 (turn_marks i) (turn_scalars i)
-          turns_given i il cs p z = input_in ys row_types (row_env (i / M)) (row_sems (i / M)) (ArrayOf M x2) 0 inputs2 typed_ys (rows_in (i / M) (row_of_turn i il)) cs (i % M) p (column_of_turn i il, z)
+          turns_given : (i : ℕ) → i < places grid → Has (InRow (i / M)) x2 (turn_marks i) (turn_scalars i)
+          turns_given i il cs p z = input_has (InRow (i / M)) (λ v ds q y. inl (h.inputs v ds q y)) ys row_types (row_env (i / M)) (row_sems (i / M)) (ArrayOf M x2) 0 inputs2 typed_ys (rows_in (i / M)) cs (i % M ∷ p) (column_of_turn i il, z)
+
+          -- what a row holds is seen in its turns
+          row_seen : (o : Origin) (i : ℕ) → i < places grid → (m : Mark) (v : ℕ) → IsTurnScalar row_top (i / M) m v → sight.SeenAt num long l few_rows few_items c body h.makes h.inputs o 0 i m v
+          row_seen o i il m v y =
+              let r = i / M in
+              let loaded = loaded_marks loads (at_index r marks) no_variables y.0 y.1 in
+              let word = scalars y.0 (r ∷ y.1) in
+              subst (λ w. sight.SeenAt num long l few_rows few_items c body h.makes h.inputs o 0 i m w) y.4
+              (subst (λ mk. sight.SeenAt num long l few_rows few_items c body h.makes h.inputs o 0 i mk word) y.3
+              (⊎_elim
+              (λ is. sight.seen_top num long l few_rows few_items c body h.makes h.inputs o 0 i loaded word is (inl (y.0, y.1, y.2, refl, refl)))
+              (λ e. subst (λ mk. sight.SeenAt num long l few_rows few_items c body h.makes h.inputs o 0 i mk word) (sym e) (sight.seen_input num long l few_rows few_items c body h.makes h.inputs o 0 i (marks y.0 (r ∷ y.1)) word (given_rows y.0 (r ∷ y.1) (row_of_turn i il, y.2))))
+              (loaded_or loads x (at_index r marks) no_variables y.0 y.1 ok y.2)))
 
           scoped : sight.Scoped num long l few_rows few_items c body h.makes h.inputs 0 scope
           scoped zero i il cs p z =
               ⊎_elim
-              (λ r. subst (λ mk. sight.SeenAt num long l few_rows few_items c body h.makes h.inputs (at_way Elsewhere cs) 0 i mk (turn_scalars i cs p)) (sym r.1) (inr (cs, p, z, r.1, refl)))
-              (λ e. subst (λ mk. sight.SeenAt num long l few_rows few_items c body h.makes h.inputs (at_way Elsewhere cs) 0 i mk (turn_scalars i cs p)) (sym e) (sight.seen_input num long l few_rows few_items c body h.makes h.inputs (at_way Elsewhere cs) 0 i (turn_marks i cs p) (turn_scalars i cs p) (turns_given i il cs p z)))
+              (λ is. sight.seen_top num long l few_rows few_items c body h.makes h.inputs (at_way Elsewhere cs) 0 i (loaded_marks loads2 (turn_marks i) (load_count loads) cs p) (turn_scalars i cs p) is (inr (cs, p, z, refl, refl)))
+              (λ e. subst (λ mk. sight.SeenAt num long l few_rows few_items c body h.makes h.inputs (at_way Elsewhere cs) 0 i mk (turn_scalars i cs p)) (sym e)
+              (⊎_elim
+              (λ y. sight.seen_input num long l few_rows few_items c body h.makes h.inputs (at_way Elsewhere cs) 0 i (turn_marks i cs p) (turn_scalars i cs p) y)
+              (λ y. row_seen (at_way Elsewhere cs) i il (turn_marks i cs p) (turn_scalars i cs p) y)
+              (turns_given i il cs p z)))
               (loaded_or loads2 x2 (turn_marks i) (load_count loads) cs p ok2 z)
-          scoped (suc zero) i il cs p z =
-              let r = i / M in
-              ⊎_elim
-              (λ q. subst (λ mk. sight.SeenAt num long l few_rows few_items c body h.makes h.inputs (at_way Elsewhere cs) 0 i mk (scalars cs (r ∷ p))) (sym q.1) (inl (cs, p, z, q.1, refl)))
-              (λ e. subst (λ mk. sight.SeenAt num long l few_rows few_items c body h.makes h.inputs (at_way Elsewhere cs) 0 i mk (scalars cs (r ∷ p))) (sym e) (sight.seen_input num long l few_rows few_items c body h.makes h.inputs (at_way Elsewhere cs) 0 i (marks cs (r ∷ p)) (scalars cs (r ∷ p)) (given_rows cs r p (row_of_turn i il, z))))
-              (loaded_or loads x (at_index r marks) 0 cs p ok z)
+          scoped (suc zero) i il cs p z = row_seen (at_way Elsewhere cs) i il (row_env (i / M) 0 cs p) (row_sems (i / M) 0 cs p) (cs, p, z, refl, refl)
           scoped (suc (suc v)) i il cs p z = sight.seen_input num long l few_rows few_items c body h.makes h.inputs (at_way Elsewhere cs) 0 i (env v cs p) (sems v cs p) (given v cs p z)
 
           stand : stages.Each (λ q s. stage_at its_stages q ≡ s) 0 its_stages
@@ -353,12 +314,12 @@ module _ {A : Type 0} (num : A → ℕ) (forms : GridForms A) (k : Kernel) (l : 
           all_seen private local =
               sight.works num long l few_rows few_items c body h.makes h.inputs b scope y typed 0 Outputs (λ p. p) (λ p. p) stands scoped stand
               (record { inside = λ cs p z. z; returns = λ cs p z. refl; covers = λ cs p z. (z, refl) })
-              (λ f u e. not_locals f u e) (λ e. omega arith) private local (omega arith) (omega arith)
+              (λ f u e. not_locals f u e) (λ e. omega arith) private local (as_many (more (more (load_count loads) (load_count loads2)) (variable_count b))) (as_many (more (load_count loads) (load_count loads2)))
 
           map_phases : M < 2 ^ 31 → IsLaid whole (ArrayOf (num n) (ArrayOf M y)) outer path
               → ((cs : List Bool) (r : ℕ) (q : List ℕ) → IsPosition (ArrayOf (num n) (ArrayOf M y)) cs (r ∷ q) → value cs (outer (r ∷ q)) ≡ scalars_of num sources (row_sems r) (Map WorkGroup m loads2 ys b) cs q)
               → ((cs : List Bool) (r : ℕ) (q : List ℕ) → IsPosition (ArrayOf (num n) (ArrayOf M y)) cs (r ∷ q) → owner_at (outer (r ∷ q)) ≡ item_at l (column_owner num l (Map WorkGroup m loads2 ys b) q) ((r % groups_down l) * l.local.1 + local_row_owner num l (Map WorkGroup m loads2 ys b) q))
-              → load_count loads + load_count loads2 + variable_count b ≤ k.variables → Declares long 0 b → DeclaresLocals long 0 b
+              → AtMost (more (more (load_count loads) (load_count loads2)) (variable_count b)) (declared k) → Declares long 0 b → DeclaresLocals long 0 b
               → IsAlongGroups num forms l ins fence (form_over_groups (forms.rows.once n)) (num n) (load_count loads) row_env (Map WorkGroup m loads2 ys b) (λ r cs q. laid_in Output 0 whole cs (outer (r ∷ q))) row_rest
               → AreItsPhases num forms k l c lists fence owned (forms.rows.once n && forms.columns.once m) (row_uses (Map WorkGroup m loads2 ys b)) (phases_along (Map WorkGroup m loads2 ys b))
           map_phases small2 laid values owners room private local printed =
@@ -382,7 +343,7 @@ module _ {A : Type 0} (num : A → ℕ) (forms : GridForms A) (k : Kernel) (l : 
                   room = room;
                   row_top_loads = ok;
                   top_loads = ok2;
-                  row_top_given = λ r rl cs p z. given_rows cs r p (rl, z);
+                  row_top_given = λ r rl cs p z. given_rows cs (r ∷ p) (rl, z);
                   top_given = turns_given;
                   stages = λ q ql. let e : 0 + q ≡ q = omega arith in subst (λ z. IsIts z (stage_at its_stages q)) e (each_at IsIts 0 q its_stages all.0 ql);
                   chained = (written_chain num forms ins src sources b scope y typed Outputs (λ p. p) (λ p. p) stands tt).0;
@@ -429,7 +390,7 @@ module _ {A : Type 0} (num : A → ℕ) (forms : GridForms A) (k : Kernel) (l : 
       along_phases : (t : Term A) (ty : Ty) (outer path : List ℕ → List ℕ) → StandsAlongGroups t → HasType num src row_types t ty → IsLaid whole (ArrayOf (num n) ty) outer path
           → ((cs : List Bool) (r : ℕ) (q : List ℕ) → IsPosition (ArrayOf (num n) ty) cs (r ∷ q) → value cs (outer (r ∷ q)) ≡ scalars_of num sources (row_sems r) t cs q)
           → ((cs : List Bool) (r : ℕ) (q : List ℕ) → IsPosition (ArrayOf (num n) ty) cs (r ∷ q) → owner_at (outer (r ∷ q)) ≡ item_at l (column_owner num l t q) ((r % groups_down l) * l.local.1 + local_row_owner num l t q))
-          → load_count loads + variable_count t ≤ k.variables → Declares long 0 t → AreLong LocalArray long 0 (copy_lengths LocalMemory t)
+          → AtMost (more (load_count loads) (variable_count t)) (declared k) → Declares long 0 t → AreLong LocalArray long 0 (copy_lengths LocalMemory t)
           → IsAlongGroups num forms l ins fence (form_over_groups (forms.rows.once n)) (num n) (load_count loads) row_env t (λ r cs q. laid_in Output 0 whole cs (outer (r ∷ q))) row_rest
           → AreItsPhases num forms k l c lists fence owned (forms.rows.once n && is_once_along forms t) (row_uses t) (phases_along t)
       along_phases (Reshape z t) ty outer path f hx laid values owners room private local printed =
@@ -440,16 +401,16 @@ module _ {A : Type 0} (num : A → ℕ) (forms : GridForms A) (k : Kernel) (l : 
           record { body = r.body; once_is = r.once_is; is = r.is; uses_are = r.uses_are; count_is = r.count_is; printed = r.printed }
       along_phases (Map WorkGroup m loads2 ys b) ty outer path f hx laid values owners room private local printed =
           let none = inputs_no_privates ys f.0 in
-          let no_variables = inputs_no_variables ys f.0 in
           let e : 0 + private_count ys ≡ 0 = omega arith in
           map_phases m loads2 ys b hx.0 hx.1 outer path hx.5 hx.3 f.0 hx.4 f.1 hx.2 (subst (λ z. IsLaid whole (ArrayOf (num n) z) outer path) hx.6 laid)
-          (λ cs r q z. values cs r q (subst (λ w. IsPosition (ArrayOf (num n) w) cs (r ∷ q)) (sym hx.6) z)) (λ cs r q z. owners cs r q (subst (λ w. IsPosition (ArrayOf (num n) w) cs (r ∷ q)) (sym hx.6) z)) (omega arith)
+          (λ cs r q z. values cs r q (subst (λ w. IsPosition (ArrayOf (num n) w) cs (r ∷ q)) (sym hx.6) z)) (λ cs r q z. owners cs r q (subst (λ w. IsPosition (ArrayOf (num n) w) cs (r ∷ q)) (sym hx.6) z))
+          (most_rest (load_count loads) (load_count loads2) (variable_count b) (declared k) (most_without (load_count loads) (variable_count ys) (more (load_count loads2) (variable_count b)) (declared k) room))
           (subst (λ z. Declares long z b) e private.1) (declares_locals long true 0 b f.1 (subst (λ z. AreLong LocalArray long 0 (z ++ copy_lengths LocalMemory b)) (inputs_no_copies LocalMemory ys f.0) local)) printed
       along_phases _ ty outer path f hx laid values owners room private local printed = absurd (assumption)
 
     -- and through layouts and lets of inputs
     pub term_phases : (t : Term A) (g : ℕ → Ty) (env : ℕ → Marks) (sems : ℕ → Scalars) (outer path : List ℕ → List ℕ) (ty : Ty) → StandsOverGrid t → HasType num src g t ty → AllGiven g env sems → IsLaid whole ty outer path
-        → ((cs : List Bool) (p : List ℕ) → IsPosition ty cs p → value cs (outer p) ≡ scalars_of num sources sems t cs p) → variable_count t ≤ k.variables → Declares long 0 t → AreLong LocalArray long 0 (copy_lengths LocalMemory t)
+        → ((cs : List Bool) (p : List ℕ) → IsPosition ty cs p → value cs (outer p) ≡ scalars_of num sources sems t cs p) → AtMost (variable_count t) (declared k) → Declares long 0 t → AreLong LocalArray long 0 (copy_lengths LocalMemory t)
         → IsOverGrid num forms l ins fence env t (λ cs p. laid_in Output 0 whole cs (outer p)) k.code → AreItsPhases num forms k l c lists fence (λ a m. owner num l t (path (unflat whole m))) (is_once_over forms t) (grid_uses t) (grid_phase_count t)
     term_phases (Reshape y a) g env sems outer path ty f x given laid values room private local printed =
         let r = term_phases a g env sems (λ p. outer (result_position num y p)) (λ p. operand_position num y (path p)) x.0 f.1 x.1 given (laid_under num y x.0 ty whole outer path f.0 x.2 laid)
@@ -459,18 +420,17 @@ module _ {A : Type 0} (num : A → ℕ) (forms : GridForms A) (k : Kernel) (l : 
         let none = inputs_no_privates v f.0 in
         let e : 0 + private_count v ≡ 0 = omega arith in
         let r = term_phases b (push x.0 g) (push (argument_marks l ins num env 0 v) env) (push (scalars_of num sources sems v) sems) outer path ty f.1 x.2
-        (given_push g env sems x.0 (argument_marks l ins num env 0 v) (scalars_of num sources sems v) (input_given v g env sems x.0 0 f.0 x.1 given) given) laid values (omega arith)
+        (given_push g env sems x.0 (argument_marks l ins num env 0 v) (scalars_of num sources sems v) (input_given v g env sems x.0 0 f.0 x.1 given) given) laid values (most_second (variable_count v) (variable_count b) (declared k) room)
         (subst (λ z. Declares long z b) e private.1) (subst (λ z. AreLong LocalArray long 0 (z ++ copy_lengths LocalMemory b)) (inputs_no_copies LocalMemory v f.0) local) printed in
         record { body = r.body; once_is = r.once_is; is = r.is; uses_are = r.uses_are; count_is = r.count_is; printed = r.printed }
     term_phases (Map WorkGroupRows n loads xs b) g env sems outer path ty f x given laid values room private local printed =
         let none = inputs_no_privates xs f.0 in
-        let no_variables = inputs_no_variables xs f.0 in
         let e : 0 + private_count xs ≡ 0 = omega arith in
         let T = Map WorkGroupRows n loads xs b in
         let laid2 = subst (λ z. IsLaid whole z outer path) x.6 laid in
         let given_array = input_given xs g env sems (ArrayOf (num n) x.0) 0 f.0 x.4 given in
-        along_phases g env sems n loads xs x.0 (λ w. owner num l T (path w)) (λ p. owner_below num l T (path p) h.launch h.some) x.2 x.3 given (λ cs r p z. given_array cs (r ∷ p) z) printed.0 printed.1 printed.2 printed.3 printed.4 printed.5
-        b x.1 outer path f.1 x.5 laid2 (λ cs r q z. values cs (r ∷ q) (subst (λ w. IsPosition w cs (r ∷ q)) (sym x.6) z)) (λ cs r q z. ap (owner num l T) (laid2.returns cs (r ∷ q) z)) (omega arith)
+        along_phases g env sems n loads xs x.0 (λ w. owner num l T (path w)) (λ p. owner_below num l T (path p) h.launch h.some) x.2 x.3 given given_array printed.0 printed.1 printed.2 printed.3 printed.4 printed.5
+        b x.1 outer path f.1 x.5 laid2 (λ cs r q z. values cs (r ∷ q) (subst (λ w. IsPosition w cs (r ∷ q)) (sym x.6) z)) (λ cs r q z. ap (owner num l T) (laid2.returns cs (r ∷ q) z)) (most_second (variable_count xs) (more (load_count loads) (variable_count b)) (declared k) room)
         (subst (λ z. Declares long z b) e private.1) (subst (λ z. AreLong LocalArray long 0 (z ++ copy_lengths LocalMemory b)) (inputs_no_copies LocalMemory xs f.0) local) printed.6
     term_phases _ g env sems outer path ty f x given laid values room private local printed = absurd (assumption)
 
@@ -483,7 +443,7 @@ module _ {A : Type 0} (num : A → ℕ) (forms : GridForms A) (l : Launch) (src 
   its_phases : AreItsPhases num forms k l c lists fence of_owner (is_once_over forms t) (grid_uses t) (grid_phase_count t)
   its_phases =
       term_phases num forms k l c lists ins src sources ty (scalars_of num sources no_scalars t) fence (record { launch = h.made.whole; some = h.made.some; few = h.made.few; makes = h.makes; inputs = h.made.inputs; flat_type = h.made.flat_type; outputs = h.made.outputs; shape = shape; listed = listed })
-      t no_type no_marks no_scalars (λ p. p) (λ p. p) ty h.stands h.made.typed (λ v cs p x. nothing cs p x) (laid_itself ty) (λ cs p x. refl) (let e = h.made.variables in omega arith)
+      t no_type no_marks no_scalars (λ p. p) (λ p. p) ty h.stands h.made.typed (λ v cs p x. nothing cs p x) (laid_itself ty) (λ cs p x. refl) (at_most (let e = h.made.variables in omega arith) (let e = h.made.vectors in omega arith))
       (declares (length_in k c) 0 t (λ i lt. let z : 0 + i ≡ i = omega arith in ap (λ j. slice_index k.privates j) z ∙ ap (λ ns. slice_index ns i) h.made.privates))
       (λ i lt. let z : 0 + i ≡ i = omega arith in ap (λ j. slice_index k.locals j) z ∙ ap (λ ns. slice_index ns i) h.locals) h.code
     where

@@ -1,4 +1,5 @@
 pub mod Lists
+pub mod Most
 pub mod Named
 pub mod Seen
 pub mod Sight

@@ -3,9 +3,9 @@ use Rattle.std.proofs.Common.{◌≡◌, ℕ, zero, suc, ◌+◌, ◌*◌, ◌/�
 use Rattle.std.specs.Prelude.{◌==◌, map, if◌then◌else◌}
 use Rattle.std.proofs.lemmas.Bool.{eq-eqb, eqb-true}
 use Rattle.kernel_tree.specs.Faults.{Among}
-use Rattle.lift_ir.specs.Types.{Ty, Scalar, PairOf, ArrayOf, IsPosition, IsShort}
+use Rattle.lift_ir.specs.Types.{Ty, Scalar, PairOf, ArrayOf, four, IsPosition, IsShort}
 use Rattle.lift_ir.specs.Layouts.{Layout, Split, Join, Transpose, Reverse, Slide, Pad, Reshapes}
-use Rattle.lift_ir.specs.Terms.{LoadSet, Skip, Take, Each, Term, Literal, Bound, Source, Apply, ApplyNumber, Select, Both, Project, Reshape, LetArray, LetElement, Map, Fold, Store, Copy, LoadsScalars, push, HasType}
+use Rattle.lift_ir.specs.Terms.{LoadSet, Skip, Take, TakeFour, Each, Term, Literal, Bound, Source, Apply, ApplyNumber, ApplyLanes, DivideLanes, Select, Both, Project, Reshape, LetArray, LetElement, Map, Fold, Store, Copy, lane_type, LoadsScalars, push, HasType}
 use Rattle.group_form.specs.Named.{Component, whole, components_of, beneath, outside, ways, onward, taken, named, element_ways, named_outside, ends, cut}
 use Rattle.group_form.proofs.Lists.{among_left, among_right, among_map}
 
@@ -165,6 +165,9 @@ loads_kept Skip t u W f s k = tt
 loads_kept Take Scalar u W f s k = subst (LoadsScalars Take) (sym (k.0 (f [] (inl refl)))) tt
 loads_kept Take (PairOf a b) u W f s k = absurd s
 loads_kept Take (ArrayOf n t) u W f s k = absurd s
+loads_kept TakeFour Scalar u W f s k = absurd s
+loads_kept TakeFour (PairOf a b) u W f s k = absurd s
+loads_kept TakeFour (ArrayOf n t) u W f s k = subst (LoadsScalars TakeFour) (sym (k.0 (f [] (inl refl)))) s
 loads_kept (Each x y) Scalar u W f s k = absurd s
 loads_kept (Each x y) (ArrayOf n t) u W f s k = absurd s
 loads_kept (Each x y) (PairOf a b) u W f s k =
@@ -240,6 +243,11 @@ module _ {A : Type 0} (num : A → ℕ) where
         let two = wholly h b Scalar (typed_by_named b g h Scalar whole (keeps_right g h (named a whole) (named b whole) k) x.3) in
         just h (Apply o a b) ws ty (x.0, x.1, one, two)
     typed_by_named (ApplyNumber o n a) g h ty ws k x = just h (ApplyNumber o n a) ws ty (x.0, x.1, wholly h a Scalar (typed_by_named a g h Scalar whole k x.2))
+    typed_by_named (ApplyLanes o l r a b) g h ty ws k x =
+        let one = wholly h a (lane_type l) (typed_by_named a g h (lane_type l) whole (keeps_left g h (named a whole) (named b whole) k) x.4) in
+        let two = wholly h b (lane_type r) (typed_by_named b g h (lane_type r) whole (keeps_right g h (named a whole) (named b whole) k) x.5) in
+        just h (ApplyLanes o l r a b) ws ty (x.0, x.1, x.2, x.3, one, two)
+    typed_by_named (DivideLanes o n a) g h ty ws k x = just h (DivideLanes o n a) ws ty (x.0, x.1, wholly h a four (typed_by_named a g h four whole k x.2))
     typed_by_named (Select c a b) g h ty ws k x =
         let r = keeps_right g h (named c whole) (named a whole ++ named b whole) k in
         let one = wholly h c Scalar (typed_by_named c g h Scalar whole (keeps_left g h (named c whole) (named a whole ++ named b whole) k) x.1) in

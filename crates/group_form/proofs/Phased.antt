@@ -15,12 +15,13 @@ use Rattle.lift_ir.specs.Terms.{LoadsScalars}
 use Rattle.lift_ir.specs.Scalars.{Scalars, at_index}
 use Rattle.lift_ir.proofs.Numbers.{component_below, flat_below, component_same, flat_same, unflat_flat}
 use Rattle.printed_form.specs.MapForms.{MakeTurns}
-use Rattle.printed_form.specs.Marks.{Mark, Nowhere, Register, Spot, Marks}
+use Rattle.printed_form.specs.Counts.{AtMost}
+use Rattle.printed_form.specs.Marks.{Mark, Nowhere, Register, Lane, Spot, Marks}
 use Rattle.printed_form.specs.Whole.{IsGiven}
 use Rattle.printed_form.proofs.Loops.{rest_is}
 use Rattle.group_phases.specs.Cells.{output_cell, local_cell, IsOwnOutput}
 use Rattle.group_phases.specs.Work.{IsOwnLocal}
-use Rattle.group_phases.specs.Groups.{loop_turns}
+use Rattle.group_phases.specs.Groups.{declared, loop_turns}
 use Rattle.group_phases.specs.Phases.{PhaseList, turn_of, row_of, cell_of, phase_scalars, targets, work_of, IsRead, AreRead, IsFillable}
 use Rattle.group_phases.specs.Printed.{IsPhased}
 use Rattle.group_form.specs.Named.{element_ways, named_outside}
@@ -84,7 +85,7 @@ module _ {A : Type 0} (num : A → ℕ) (k : Kernel) (l : Launch) (c : Cells) (o
     pub flat : launch.IsFlat l
     pub turns : b.turns + groups_across l ≤ 2 ^ 32
     pub once : b.once ≡ true → b.turns ≤ 1
-    pub room : b.variables ≤ k.variables
+    pub room : AtMost b.variables (declared k)
     pub top_loads : LoadsScalars b.top.loads b.top.type
     pub top_given : (i : ℕ) → i < b.turns → (cs : List Bool) (p : List ℕ) → IsPosition b.top.type cs p → IsGiven c (b.top.marks i cs p) (b.top.scalars i cs p)
     pub stages : (q : ℕ) → q < length b.stages → sight.IsStage num (length_in k c) l few c b makes given q (stage_at b.stages q)
@@ -264,6 +265,7 @@ module _ {A : Type 0} (num : A → ℕ) (k : Kernel) (l : Launch) (c : Cells) (o
     reads t q j o r (Spot (Output a) i) v il ql jl own used s = absurd s
     reads t q j o r (Spot (Private a) i) v il ql jl own used s = absurd s
     reads t q j o r (Register x) v il ql jl own used s = s
+    reads t q j o r (Lane x e) v il ql jl own used s = s
     reads t q j o r Nowhere v il ql jl own used s = absurd s
 
     reads_input : (t q j : ℕ) (m : Mark) (v : ℕ) → IsGiven c m v → CanRead t q j m v
@@ -272,6 +274,7 @@ module _ {A : Type 0} (num : A → ℕ) (k : Kernel) (l : Launch) (c : Cells) (o
     reads_input t q j (Spot (LocalArray a) i) v s = absurd s
     reads_input t q j (Spot (Private a) i) v s = absurd s
     reads_input t q j (Register x) v s = absurd s
+    reads_input t q j (Lane x e) v s = absurd s
     reads_input t q j Nowhere v s = absurd s
 
     envs : (t q j v : ℕ) → turn_of l t j < b.turns → q < n → j < item_count l → AreRead num k l c p t q j ((stage q).phase.types v) ((stage q).env (turn_of l t j) v) ((stage q).sems (turn_of l t j) v)

@@ -1,5 +1,5 @@
--- Kernels printed for a program's typed term that is a map over work-groups: the printer's kernel is
--- one, and they keep what they owe, at every admissible launch.
+-- Kernels printed for a program's typed term that is a map over work-groups: the printer's kernel
+-- is one, and they keep what they owe, at every admissible launch.
 use Rattle.std.proofs.Common.{ℕ, List, [], length, sym, ◌∙◌, subst}
 use Rattle.size_arith.specs.declared.poly.Monomial.{Monomial}
 use Rattle.lift_tree.specs.Launches.{Asks}
@@ -18,6 +18,7 @@ use Rattle.lift_ir.specs.Types.{Ty, measured, IsFlat}
 use Rattle.lift_ir.specs.Terms.{HasType, no_type}
 use Rattle.lift_ir.specs.Scalars.{Scalars, HasScalars, scalars_in, scalars_of, no_scalars, lists_of}
 use Rattle.lift_ir.specs.AtLaunch.{length_at, ty_at, shape_of}
+use Rattle.lift_ir.specs.Fours.{KeepsFours}
 use Rattle.lift_ir.specs.Lowerable.{IsStaged}
 use Rattle.lift_ir.specs.Lowering.{Lowered, Written}
 use Rattle.lift_ir.proofs.Lists.{are_lists, lists_long}
@@ -86,9 +87,9 @@ module _ (d : Declared) (asks : Asks) (w : World) (t : Tree) (a : Annotation) (l
 
 -- what the printer makes of a typed term, with the needed barriers, is printed for it
 pub groups_are_printed : GroupPrinterPrints (List Monomial) → (d : Declared) (asks : Asks) (bases : List ℕ) (t : Tree) (a : Annotation) (l : Launch) (spell : List Monomial → Formula) (fence : ℕ → Fencing)
-    → IsLowerableProgram d bases t a → IsLaunchOf d asks bases t a l → IsStaged Written t a → StandsOverGroups (lowered_root d.names t a) → FitsBuffers d bases a → IsSpelling spell bases l → AreNeededBy OfGroups d asks.local fence t a
+    → IsLowerableProgram d bases t a → IsLaunchOf d asks bases t a l → IsStaged Written t a → StandsOverGroups (lowered_root d.names t a) → KeepsFours (lowered_root d.names t a) → FitsBuffers d bases a → IsSpelling spell bases l → AreNeededBy OfGroups d asks.local fence t a
     → PrintsGroups d asks.local bases t a l (printed_group_kernel spell fence d asks.local t a)
-groups_are_printed prints d asks bases t a l spell fence program launch staged stands placed spelled needed =
+groups_are_printed prints d asks bases t a l spell fence program launch staged stands fours placed spelled needed =
     let num = length_at bases in
     let low = lowered_root d.names t a in
     let same = shape_is bases (type_in a) in
@@ -100,6 +101,6 @@ groups_are_printed prints d asks bases t a l spell fence program launch staged s
       needed = needed;
       code =
           subst (λ z. IsOverGroups num forms l (input_marks num (first_buffer d.inputs) (input_shape d.inputs)) fence no_marks low (output_marks z) (group_kernel_code spell forms (first_buffer d.inputs) (input_shape d.inputs) fence low (shape_of (type_in a)))) same
-          (prints l num forms makes spell spelled (first_buffer d.inputs) (input_shape d.inputs) fence low (shape_of (type_in a)) stands
+          (prints l num forms makes spell spelled (first_buffer d.inputs) (input_shape d.inputs) fence low (shape_of (type_in a)) stands fours
           (subst (λ z. HasType num (λ v. measured num (input_shape d.inputs v)) no_type low z) (sym same) (own.lowered_has d asks bases t a l program launch)) (names_suffice d bases t a program.nodes program.lowerable staged) placed.0 (own.inputs_placed bases d.inputs placed.1));
     }

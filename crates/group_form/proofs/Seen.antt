@@ -6,9 +6,11 @@ use Rattle.kernel_tree.specs.Launch.{Cells}
 use Rattle.kernel_tree.specs.Device.{row}
 use Rattle.lift_ir.specs.Types.{Ty, Scalar, PairOf, ArrayOf, IsPosition, width, component}
 use Rattle.lift_ir.specs.Scalars.{Scalars}
-use Rattle.printed_form.specs.Marks.{Mark, Nowhere, Register, Spot, Marks, loaded_marks}
+use Rattle.printed_form.specs.Counts.{no_variables}
+use Rattle.printed_form.specs.Marks.{Mark, Nowhere, Register, Lane, Spot, Marks, loaded_marks}
 use Rattle.printed_form.specs.Whole.{IsGiven}
 use Rattle.group_phases.specs.Phases.{TurnElement}
+use Rattle.group_phases.proofs.Held.{IsVariable}
 use Rattle.group_form.specs.Origins.{Origin, Elsewhere, Within, BySide, on_side, at_way, bent, laid_from}
 use Rattle.group_form.specs.Uses.{Locals}
 use Rattle.group_form.specs.Stages.{stage_at, result_type, value_in}
@@ -41,9 +43,9 @@ laid_at n (PairOf a b) (true ∷ cs) p x = laid_at (n + width a) b cs p x ∙ ap
 laid_at n (ArrayOf m t) cs [] x = absurd x
 laid_at n (ArrayOf m t) cs (i ∷ p) x = laid_at n t cs p x.1
 
--- a scalar that the map over groups binds is in this variable at a turn, and is this
-abbrev pub IsTurnScalar : TurnElement → (turn var value : ℕ) → Type 0
-IsTurnScalar top i r v = (cs : List Bool) × (p : List ℕ) × IsPosition top.type cs p × (loaded_marks top.loads (top.marks i) 0 cs p ≡ Register r) × (top.scalars i cs p ≡ v)
+-- this stands for a scalar that the map over groups binds at a turn, which is this
+abbrev pub IsTurnScalar : TurnElement → (turn : ℕ) → Mark → (value : ℕ) → Type 0
+IsTurnScalar top i m v = (cs : List Bool) × (p : List ℕ) × IsPosition top.type cs p × (loaded_marks top.loads (top.marks i) no_variables cs p ≡ m) × (top.scalars i cs p ≡ v)
 
 module _ {A : Type 0} (num : A → ℕ) (c : Cells) (b : GroupBody A) where
   -- a cell of a local array that an earlier phase fills, from this origin. Where it is reached
@@ -68,18 +70,13 @@ module _ {A : Type 0} (num : A → ℕ) (c : Cells) (b : GroupBody A) where
   abbrev pub SeenAt : Origin → (q i : ℕ) → List ℕ → Mark → ℕ → Type 0
   SeenAt o q i p (Spot (Input a) n) v = (n < length (row c.ins a)) × (slice_index (row c.ins a) n ≡ v)
   SeenAt o q i p (Spot (LocalArray a) n) v = IsSeen o q i p a n v
-  SeenAt o q i p (Register r) v = IsTurnScalar b.top i r v
+  SeenAt o q i p (Register r) v = IsTurnScalar b.top i (Register r) v
+  SeenAt o q i p (Lane r j) v = IsTurnScalar b.top i (Lane r j) v
   SeenAt o q i p _ v = ⊥
 
   -- what stands for a value at each turn
   abbrev pub Sees : Origin → (q : ℕ) → Ty → (marks : (turn : ℕ) → Marks) → (scalars : (turn : ℕ) → Scalars) → Type 0
   Sees o q ty e s = (i : ℕ) → i < b.turns → (cs : List Bool) (p : List ℕ) → IsPosition ty cs p → SeenAt (at_way o cs) q i p (e i cs p) (s i cs p)
-
-  -- before the first phase
-  abbrev pub StartsAt : (i : ℕ) → Mark → ℕ → Type 0
-  StartsAt i (Spot (Input a) n) v = (n < length (row c.ins a)) × (slice_index (row c.ins a) n ≡ v)
-  StartsAt i (Register r) v = IsTurnScalar b.top i r v
-  StartsAt i _ v = ⊥
 
   pub seen_later : (o : Origin) (q r i : ℕ) (p : List ℕ) (m : Mark) (v : ℕ) → q ≤ r → SeenAt o q i p m v → SeenAt o r i p m v
   seen_later o q r i p (Spot (Input a) n) v le x = x
@@ -87,6 +84,7 @@ module _ {A : Type 0} (num : A → ℕ) (c : Cells) (b : GroupBody A) where
   seen_later o q r i p (Spot (Output a) n) v le x = absurd x
   seen_later o q r i p (Spot (Private a) n) v le x = absurd x
   seen_later o q r i p (Register a) v le x = x
+  seen_later o q r i p (Lane a j) v le x = x
   seen_later o q r i p Nowhere v le x = absurd x
 
   -- at another position
@@ -96,6 +94,7 @@ module _ {A : Type 0} (num : A → ℕ) (c : Cells) (b : GroupBody A) where
   seen_bent o q i p r (Spot (Output a) n) v x = absurd x
   seen_bent o q i p r (Spot (Private a) n) v x = absurd x
   seen_bent o q i p r (Register a) v x = x
+  seen_bent o q i p r (Lane a j) v x = x
   seen_bent o q i p r Nowhere v x = absurd x
 
   pub seen_input : (o : Origin) (q i : ℕ) (p : List ℕ) (m : Mark) (v : ℕ) → IsGiven c m v → SeenAt o q i p m v
@@ -104,15 +103,15 @@ module _ {A : Type 0} (num : A → ℕ) (c : Cells) (b : GroupBody A) where
   seen_input o q i p (Spot (Output a) n) v x = absurd x
   seen_input o q i p (Spot (Private a) n) v x = absurd x
   seen_input o q i p (Register a) v x = absurd x
+  seen_input o q i p (Lane a j) v x = absurd x
   seen_input o q i p Nowhere v x = absurd x
 
-  pub seen_start : (o : Origin) (q i : ℕ) (p : List ℕ) (m : Mark) (v : ℕ) → StartsAt i m v → SeenAt o q i p m v
-  seen_start o q i p (Spot (Input a) n) v x = x
-  seen_start o q i p (Spot (LocalArray a) n) v x = absurd x
-  seen_start o q i p (Spot (Output a) n) v x = absurd x
-  seen_start o q i p (Spot (Private a) n) v x = absurd x
-  seen_start o q i p (Register a) v x = x
-  seen_start o q i p Nowhere v x = absurd x
+  -- a variable that the map over groups binds
+  pub seen_top : (o : Origin) (q i : ℕ) (p : List ℕ) (m : Mark) (v : ℕ) → IsVariable m → IsTurnScalar b.top i m v → SeenAt o q i p m v
+  seen_top o q i p (Register a) v is x = x
+  seen_top o q i p (Lane a j) v is x = x
+  seen_top o q i p (Spot a n) v is x = absurd is
+  seen_top o q i p Nowhere v is x = absurd is
 
   -- at the same position of a value by another expression of its origin
   pub seen_from : (o u : Origin) (q i : ℕ) (p : List ℕ) (m : Mark) (v : ℕ) → o ≡ u → SeenAt o q i p m v → SeenAt u q i p m v

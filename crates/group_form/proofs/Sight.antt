@@ -7,7 +7,7 @@ use Rattle.lift_ir.specs.Layouts.{Layout, operand_position, result_position, Res
 use Rattle.lift_ir.specs.Terms.{LoadSet, Local, LocalMemory, Term, Bound, Source, Both, Project, Reshape, LetArray, Map, Copy, LoadsScalars, push, HasType}
 use Rattle.lift_ir.specs.Scalars.{Scalars, scalars_of}
 use Rattle.lift_ir.proofs.Positions.{operand_in, result_in, result_operand}
-use Rattle.printed_form.specs.Counts.{load_count, variable_count, private_count, local_count}
+use Rattle.printed_form.specs.Counts.{more, AtMost, load_count, variable_count, private_count, local_count}
 use Rattle.printed_form.specs.MapForms.{MakesTurns, MakeTurns}
 use Rattle.printed_form.specs.Marks.{Mark, Marks, laid_in}
 use Rattle.printed_form.specs.Form.{Declares}
@@ -23,6 +23,7 @@ use Rattle.group_form.specs.Body.{GroupBody, destination_marks, first_index}
 use Rattle.group_form.specs.Whole.{DeclaresLocals, destination_type, row_of}
 use Rattle.group_form.proofs.Lists.{Each, long_append, each_append, each_left, each_right}
 use Rattle.group_form.proofs.Named.{IsUnder, cut_position, body_typed, element_loads}
+use Rattle.group_form.proofs.Most.{most_first, most_rest, most_later}
 use Rattle.group_form.proofs.Seen.{way_bent, laid_at, SeenAt, Sees, seen_later, seen_bent, seen_input}
 
 module _ {A : Type 0} (num : A → ℕ) (long : Array → ℕ) (l : Launch) (few : l.local.0 ≤ 2 ^ 31) (c : Cells) (b : GroupBody A) (makes : MakeTurns b.forms num l) (given : (v : ℕ) (cs : List Bool) (p : List ℕ) → IsPosition (b.src v) cs p → IsGiven c (b.ins v cs p) (b.sources v cs p)) where
@@ -39,8 +40,8 @@ module _ {A : Type 0} (num : A → ℕ) (long : Array → ℕ) (l : Launch) (few
     pub loads : LoadsScalars s.phase.loads s.phase.element
     pub typed : HasType num b.src (push s.phase.element s.phase.types) s.phase.body s.phase.result
     pub declares : Declares long s.phase.privates s.phase.body
-    pub after_top : load_count b.top.loads ≤ s.phase.variables
-    pub fits : s.phase.variables + load_count s.phase.loads + variable_count s.phase.body ≤ b.variables
+    pub after_top : AtMost (load_count b.top.loads) s.phase.variables
+    pub fits : AtMost (more (more s.phase.variables (load_count s.phase.loads)) (variable_count s.phase.body)) b.variables
     pub inside : (cs : List Bool) (p : List ℕ) → IsPosition (result_type s) cs p → IsPosition (destination_type b.result s.destination) cs (s.outer p)
     pub returns : (cs : List Bool) (p : List ℕ) → IsPosition (result_type s) cs p → s.path (s.outer p) ≡ p
     pub covers : (cs : List Bool) (p : List ℕ) → IsPosition (destination_type b.result s.destination) cs p → IsPosition (result_type s) cs (s.path p) × (s.outer (s.path p) ≡ p)
@@ -160,7 +161,7 @@ module _ {A : Type 0} (num : A → ℕ) (long : Array → ℕ) (l : Launch) (few
 
   this_stage : (q r : ℕ) (n : A) (s : Scope) (loads : LoadSet) (xs body : Term A) (x y : Ty) (d : Destination) (outer path : List ℕ → List ℕ) (direct : Bool) → num n < 2 ^ 31 → LoadsScalars loads x → HasType num b.src (push x s.types) body y → q ≤ r → Scoped q s
       → SeenArgument r s xs (ArrayOf (num n) x) → IsAimed (destination_type b.result d) (ArrayOf (num n) y) outer path direct → Fits d → (d ≡ Outputs → suc r ≡ length b.stages)
-      → Declares long (s.privates + private_count xs) body → s.variables + (variable_count xs + (load_count loads + variable_count body)) ≤ b.variables → load_count b.top.loads ≤ s.variables
+      → Declares long (s.privates + private_count xs) body → AtMost (more s.variables (more (variable_count xs) (more (load_count loads) (variable_count body)))) b.variables → AtMost (load_count b.top.loads) s.variables
       → IsStage r (stages.stage_of num b.forms b.ins b.src b.sources s n loads xs body x y d outer path direct)
   this_stage q r n s loads xs body x y d outer path direct small scalars typed le scoped seen aimed fit ends declared room low = record {
     turns = makes.local n small;
@@ -168,8 +169,8 @@ module _ {A : Type 0} (num : A → ℕ) (long : Array → ℕ) (l : Launch) (few
     loads = element_loads loads x (ways 0 (named.named body named.whole)) scalars;
     typed = body_typed num b.src s.types loads body x y typed;
     declares = declared;
-    after_top = omega arith;
-    fits = omega arith;
+    after_top = most_later (load_count b.top.loads) s.variables (variable_count xs) low;
+    fits = most_rest (more s.variables (variable_count xs)) (load_count loads) (variable_count body) b.variables (most_rest s.variables (variable_count xs) (more (load_count loads) (variable_count body)) b.variables room);
     inside = aimed.inside;
     returns = aimed.returns;
     covers = aimed.covers;
@@ -192,16 +193,16 @@ module _ {A : Type 0} (num : A → ℕ) (long : Array → ℕ) (l : Launch) (few
       under cs (j ∷ p) z = (cut_position x (element_ways loads body) cs p z.1).1
 
   mutual
-    pub sees : (t : Term A) (s : Scope) (ty : Ty) (h : HasType num b.src s.types t ty) (q : ℕ) → StandsInGroup false t → Scoped q s → Stand q (argument_stages s t ty h) → Declares long s.privates t → DeclaresLocals long s.locals t → s.variables + variable_count t ≤ b.variables
-        → load_count b.top.loads ≤ s.variables → Result t s ty h q
+    pub sees : (t : Term A) (s : Scope) (ty : Ty) (h : HasType num b.src s.types t ty) (q : ℕ) → StandsInGroup false t → Scoped q s → Stand q (argument_stages s t ty h) → Declares long s.privates t → DeclaresLocals long s.locals t → AtMost (more s.variables (variable_count t)) b.variables
+        → AtMost (load_count b.top.loads) s.variables → Result t s ty h q
     sees (Bound v) s ty h q f scoped is private local room low =
         (tt, later_seen (s.origins v) q (q + 0) ty (λ i. s.env i v) (λ i. s.sems i v) (omega arith) (subst (λ z. Seen (s.origins v) q z (λ i. s.env i v) (λ i. s.sems i v)) (sym h) (scoped v)))
     sees (Source a) s ty h q f scoped is private local room low = (tt, λ i il cs p z. seen_input num c b (at_way Elsewhere cs) (q + 0) i p (b.ins a cs p) (b.sources a cs p) (given a cs p (subst (λ w. IsPosition w cs p) h z)))
     sees (Both true x y) s ty h q f scoped is private local room low =
         let xs = argument_stages s x (ArrayOf h.0 h.1) h.4 in
         let ys = argument_stages (later s x) y (ArrayOf h.0 h.2) h.5 in
-        let one = sees x s (ArrayOf h.0 h.1) h.4 q f.0 scoped (each_left (λ r t. stage_at b.stages r ≡ t) q xs ys is) private.0 local.0 (omega arith) low in
-        let two = sees y (later s x) (ArrayOf h.0 h.2) h.5 (q + length xs) f.1 (scoped_later q (q + length xs) s (omega arith) scoped) (each_right (λ r t. stage_at b.stages r ≡ t) q xs ys is) private.1 local.1 (omega arith) (omega arith) in
+        let one = sees x s (ArrayOf h.0 h.1) h.4 q f.0 scoped (each_left (λ r t. stage_at b.stages r ≡ t) q xs ys is) private.0 local.0 (most_first s.variables (variable_count x) (variable_count y) b.variables room) low in
+        let two = sees y (later s x) (ArrayOf h.0 h.2) h.5 (q + length xs) f.1 (scoped_later q (q + length xs) s (omega arith) scoped) (each_right (λ r t. stage_at b.stages r ≡ t) q xs ys is) private.1 local.1 (most_rest s.variables (variable_count x) (variable_count y) b.variables room) (most_later (load_count b.top.loads) s.variables (variable_count x) low) in
         let sum = long_append xs ys in
         let end = q + length xs + length ys in (
           each_append IsStage q xs ys one.0 two.0,
@@ -227,8 +228,8 @@ module _ {A : Type 0} (num : A → ℕ) (long : Array → ℕ) (l : Launch) (few
         let t = bind s v h.0 in
         let xs = argument_stages s v h.0 h.1 in
         let ys = argument_stages t x ty h.2 in
-        let one = sees v s h.0 h.1 q f.0 scoped (each_left (λ r t. stage_at b.stages r ≡ t) q xs ys is) private.0 local.0 (omega arith) low in
-        let two = sees x t ty h.2 (q + length xs) f.1 (bound_in (q + length xs) s v h.0 (scoped_later q (q + length xs) s (omega arith) scoped) one.1) (each_right (λ r t. stage_at b.stages r ≡ t) q xs ys is) private.1 local.1 (omega arith) (omega arith) in
+        let one = sees v s h.0 h.1 q f.0 scoped (each_left (λ r t. stage_at b.stages r ≡ t) q xs ys is) private.0 local.0 (most_first s.variables (variable_count v) (variable_count x) b.variables room) low in
+        let two = sees x t ty h.2 (q + length xs) f.1 (bound_in (q + length xs) s v h.0 (scoped_later q (q + length xs) s (omega arith) scoped) one.1) (each_right (λ r t. stage_at b.stages r ≡ t) q xs ys is) private.1 local.1 (most_rest s.variables (variable_count v) (variable_count x) b.variables room) (most_later (load_count b.top.loads) s.variables (variable_count v) low) in
         let sum = long_append xs ys in
         let end = q + length xs + length ys in
         let o = origin_of t.origins t.locals x in (
@@ -247,7 +248,7 @@ module _ {A : Type 0} (num : A → ℕ) (long : Array → ℕ) (l : Launch) (few
     sees _ s ty h q f scoped is private local room low = absurd (assumption)
 
     pub works : (t : Term A) (s : Scope) (ty : Ty) (h : HasType num b.src s.types t ty) (q : ℕ) (d : Destination) (outer path : List ℕ → List ℕ) (direct : Bool) → StandsInGroup true t → Scoped q s → Stand q (written_stages s t ty h d outer path direct)
-        → IsAimed (destination_type b.result d) ty outer path direct → Fits d → (d ≡ Outputs → q + length (written_stages s t ty h d outer path direct) ≡ length b.stages) → Declares long s.privates t → DeclaresLocals long s.locals t → s.variables + variable_count t ≤ b.variables → load_count b.top.loads ≤ s.variables
+        → IsAimed (destination_type b.result d) ty outer path direct → Fits d → (d ≡ Outputs → q + length (written_stages s t ty h d outer path direct) ≡ length b.stages) → Declares long s.privates t → DeclaresLocals long s.locals t → AtMost (more s.variables (variable_count t)) b.variables → AtMost (load_count b.top.loads) s.variables
         → Each IsStage q (written_stages s t ty h d outer path direct) × IsLast (q + length (written_stages s t ty h d outer path direct)) s t d path
     works (Reshape y a) s ty h q d outer path direct f scoped is aimed fit ends private local room low =
         let r = works a s h.0 h.1 q d (λ p. outer (result_position num y p)) (λ p. operand_position num y (path p)) false f.1 scoped is (aimed_under y h.0 ty (destination_type b.result d) outer path direct f.0 h.2 aimed) fit ends private local room low in
@@ -256,16 +257,16 @@ module _ {A : Type 0} (num : A → ℕ) (long : Array → ℕ) (l : Launch) (few
         let t = bind s v h.0 in
         let xs = argument_stages s v h.0 h.1 in
         let ys = written_stages t x ty h.2 d outer path direct in
-        let one = sees v s h.0 h.1 q f.0 scoped (each_left (λ r t. stage_at b.stages r ≡ t) q xs ys is) private.0 local.0 (omega arith) low in
+        let one = sees v s h.0 h.1 q f.0 scoped (each_left (λ r t. stage_at b.stages r ≡ t) q xs ys is) private.0 local.0 (most_first s.variables (variable_count v) (variable_count x) b.variables room) low in
         let sum = long_append xs ys in
-        let two = works x t ty h.2 (q + length xs) d outer path direct f.1 (bound_in (q + length xs) s v h.0 (scoped_later q (q + length xs) s (omega arith) scoped) one.1) (each_right (λ r t. stage_at b.stages r ≡ t) q xs ys is) aimed fit (λ e. let z = ends e in omega arith) private.1 local.1 (omega arith) (omega arith) in
+        let two = works x t ty h.2 (q + length xs) d outer path direct f.1 (bound_in (q + length xs) s v h.0 (scoped_later q (q + length xs) s (omega arith) scoped) one.1) (each_right (λ r t. stage_at b.stages r ≡ t) q xs ys is) aimed fit (λ e. let z = ends e in omega arith) private.1 local.1 (most_rest s.variables (variable_count v) (variable_count x) b.variables room) (most_later (load_count b.top.loads) s.variables (variable_count v) low) in
         let final = two.1.ends in
         (each_append IsStage q xs ys one.0 two.0, record { at = two.1.at; ends = omega arith; goes = two.1.goes; stage = two.1.stage; value = λ i cs p. two.1.value i cs p; rows = λ p. two.1.rows p })
     works (Map Local n loads xs body) s ty h q d outer path direct f scoped is aimed fit ends private local room low =
         let ss = argument_stages s xs (ArrayOf (num n) h.0) h.4 in
         let t = stages.stage_of num b.forms b.ins b.src b.sources s n loads xs body h.0 h.1 d outer path direct in
         let r = q + length ss in
-        let one = sees xs s (ArrayOf (num n) h.0) h.4 q f.0 scoped (each_left (λ r t. stage_at b.stages r ≡ t) q ss (t ∷ []) is) private.0 local (omega arith) low in
+        let one = sees xs s (ArrayOf (num n) h.0) h.4 q f.0 scoped (each_left (λ r t. stage_at b.stages r ≡ t) q ss (t ∷ []) is) private.0 local (most_first s.variables (variable_count xs) (more (load_count loads) (variable_count body)) b.variables room) low in
         let sum = long_append ss (t ∷ []) in
         let here : stage_at b.stages r ≡ t = (each_right (λ r t. stage_at b.stages r ≡ t) q ss (t ∷ []) is).0 in
         let this = this_stage q r n s loads xs body h.0 h.1 d outer path direct h.2 h.3 h.5 (omega arith) scoped one.1 (subst (λ z. IsAimed (destination_type b.result d) z outer path direct) h.6 aimed) fit (λ e. let z = ends e in omega arith) private.1 room low in

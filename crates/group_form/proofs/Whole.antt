@@ -1,5 +1,5 @@
 -- A printed map over work-groups keeps the headline.
-use Rattle.std.proofs.Common.{◌≡◌, ℕ, zero, suc, ◌+◌, ◌*◌, ◌%◌, ◌<◌, ◌≤◌, ◌⊎◌, ⊎_elim, inl, inr, ◌^◌, List, [], ◌∷◌, ◌++◌, length, Bool, true, false, true≢false, refl, sym, ap, ◌∙◌, subst, arith}
+use Rattle.std.proofs.Common.{◌≡◌, ℕ, zero, suc, ◌+◌, ◌*◌, ◌%◌, ◌<◌, ◌≤◌, ⊎_elim, ◌^◌, List, [], ◌∷◌, ◌++◌, length, Bool, true, false, true≢false, refl, sym, ap, ◌∙◌, subst, arith}
 use Rattle.std.specs.Prelude.{map, replicate, slice_index}
 use Rattle.std.proofs.Math.Nat.{mod-eq_of_lt}
 use Rattle.kernel_tree.specs.Code.{Array, Local as LocalArray, Output, Kernel, End}
@@ -12,24 +12,27 @@ use Rattle.barrier_placement.specs.Fencing.{Fencing, Open}
 use Rattle.barrier_placement.specs.Separates.{Separates}
 use Rattle.lift_ir.specs.Types.{Ty, Scalar, PairOf, ArrayOf, IsPosition, IsFlat, width, size, unflat}
 use Rattle.lift_ir.specs.Layouts.{operand_position, result_position}
-use Rattle.lift_ir.specs.Terms.{LoadSet, Skip, Take, Each, WorkGroup, Local, LocalMemory, Term, Bound, Source, Both, Project, Reshape, LetArray, Map, LoadsScalars, push, HasType, no_type}
+use Rattle.lift_ir.specs.Terms.{LoadSet, WorkGroup, Local, LocalMemory, Term, Bound, Source, Both, Project, Reshape, LetArray, Map, LoadsScalars, push, HasType, no_type}
 use Rattle.lift_ir.specs.Scalars.{Scalars, by_side, at_index, scalars_of, no_scalars, AreLists}
 use Rattle.lift_ir.specs.Owner.{local_owner, owner, is_in_rows}
 use Rattle.lift_ir.proofs.Owner.{owner_below}
 use Rattle.lift_ir.proofs.Positions.{operand_in, result_in}
-use Rattle.printed_form.specs.Counts.{load_count, variable_count, private_count, copy_lengths}
+use Rattle.printed_form.specs.Counts.{more, no_variables, AtMost, load_count, variable_count, private_count, copy_lengths}
 use Rattle.printed_form.specs.Headline.{EveryRunKeeps}
 use Rattle.printed_form.specs.MapForms.{MapForms, MakeTurns}
-use Rattle.printed_form.specs.Marks.{Nowhere, Register, Marks, laid_in, loaded_marks}
+use Rattle.printed_form.specs.Marks.{Nowhere, Marks, laid_in, loaded_marks}
 use Rattle.printed_form.specs.Form.{Declares, argument_marks}
 use Rattle.printed_form.specs.Whole.{no_marks, IsGiven}
 use Rattle.printed_form.proofs.Lengths.{AreLong, declares}
+use Rattle.printed_form.proofs.Runs.{at_most, as_many}
 use Rattle.group_phases.specs.Epochs.{IsPast}
 use Rattle.group_phases.specs.Outcome.{BarriersServeAll}
 use Rattle.group_phases.specs.Phased.{IsGroupKernel}
 use Rattle.group_phases.specs.Phases.{IsPhase}
 use Rattle.group_phases.specs.Printed.{IsPhased, PhasesKeep, PhasesServe}
 use Rattle.group_form.specs.Origins.{Elsewhere, at_way}
+use Rattle.group_phases.specs.Groups.{declared}
+use Rattle.group_phases.proofs.Held.{loaded_or}
 use Rattle.group_form.specs.Forms.{StandsInGroup, IsOfInputs, StandsOverGroups}
 use Rattle.group_form.specs.Uses.{Locals, Outputs, numbered, phase_count, group_touches}
 use Rattle.group_form.specs.Stages as stages
@@ -39,7 +42,8 @@ use Rattle.group_form.specs.Form.{is_once, IsOverGroups}
 use Rattle.group_form.specs.Whole.{DeclaresLocals, row_of}
 use Rattle.group_form.specs.Theorem.{IsPrintedOverGroups, IsKeptApart}
 use Rattle.group_form.proofs.Lists.{Each as EachStage, each_at, each_from}
-use Rattle.group_form.proofs.Seen.{SeenAt, seen_input}
+use Rattle.group_form.proofs.Most.{most_second}
+use Rattle.group_form.proofs.Seen.{SeenAt, seen_input, seen_top}
 use Rattle.group_form.proofs.Sight as sight
 use Rattle.group_form.proofs.Counters.{written_chain}
 use Rattle.group_form.proofs.Uses.{written_uses_are}
@@ -48,16 +52,6 @@ use Rattle.group_form.proofs.Form as form
 use Rattle.group_form.proofs.Copies.{declares_locals, inputs_no_copies, inputs_no_privates}
 use Rattle.group_form.proofs.Outputs as outputs
 use Rattle.group_form.proofs.Outputs.{IsLaid, laid_under, laid_itself}
-
--- once scalars are loaded, each is in a variable, and all else stands as it did
-loaded_or : (loads : LoadSet) (ty : Ty) (e : Marks) (n : ℕ) (cs : List Bool) (p : List ℕ) → LoadsScalars loads ty → IsPosition ty cs p → ((r : ℕ) × (loaded_marks loads e n cs p ≡ Register r)) ⊎ (loaded_marks loads e n cs p ≡ e cs p)
-loaded_or Skip ty e n cs p ok x = inr refl
-loaded_or Take ty e n cs p ok x = inl (n, refl)
-loaded_or (Each a b) Scalar e n cs p ok x = absurd ok
-loaded_or (Each a b) (ArrayOf m t) e n cs p ok x = absurd ok
-loaded_or (Each a b) (PairOf t u) e n [] p ok x = absurd x
-loaded_or (Each a b) (PairOf t u) e n (false ∷ cs) p ok x = loaded_or a t (λ ds. e (false ∷ ds)) n cs p ok.0 x
-loaded_or (Each a b) (PairOf t u) e n (true ∷ cs) p ok x = loaded_or b u (λ ds. e (true ∷ ds)) (n + load_count a) cs p ok.1 x
 
 -- the owner of a scalar of a group's turn
 owner_of_row : {A : Type 0} (num : A → ℕ) (l : Launch) (t : Term A) (p : List ℕ) → 0 < l.local.0 → StandsInGroup true t → local_owner num l t p ≡ row_of num t p % l.local.0
@@ -168,7 +162,7 @@ module _ {A : Type 0} (num : A → ℕ) (forms : MapForms A) (k : Kernel) (l : L
 
       abbrev scope : Scope
       scope = record {
-        env = λ i. push (loaded_marks loads (at_index i marks) 0) env;
+        env = λ i. push (loaded_marks loads (at_index i marks) no_variables) env;
         sems = λ i. push (at_index i scalars) sems;
         types = push x g;
         origins = λ v. Elsewhere;
@@ -184,7 +178,7 @@ module _ {A : Type 0} (num : A → ℕ) (forms : MapForms A) (k : Kernel) (l : L
       body = record {
         once = forms.once n;
         turns = num n;
-        variables = load_count loads + variable_count b;
+        variables = more (load_count loads) (variable_count b);
         forms = forms;
         ins = ins;
         src = src;
@@ -210,9 +204,9 @@ module _ {A : Type 0} (num : A → ℕ) (forms : MapForms A) (k : Kernel) (l : L
       scoped : LoadsScalars loads x → AllGiven g env sems → ((i : ℕ) → i < num n → Given x (at_index i marks) (at_index i scalars)) → sight.Scoped num long l few_items c body h.makes h.inputs 0 scope
       scoped ok given at zero i il cs p z =
           ⊎_elim
-          (λ r. subst (λ m. SeenAt num c body (at_way Elsewhere cs) 0 i p m (at_index i scalars cs p)) (sym r.1) (cs, p, z, r.1, refl))
+          (λ is. seen_top num c body (at_way Elsewhere cs) 0 i p (loaded_marks loads (at_index i marks) no_variables cs p) (at_index i scalars cs p) is (cs, p, z, refl, refl))
           (λ e. subst (λ m. SeenAt num c body (at_way Elsewhere cs) 0 i p m (at_index i scalars cs p)) (sym e) (seen_input num c body (at_way Elsewhere cs) 0 i p (at_index i marks cs p) (at_index i scalars cs p) (at i il cs p z)))
-          (loaded_or loads x (at_index i marks) 0 cs p ok z)
+          (loaded_or loads x (at_index i marks) no_variables cs p ok z)
       scoped ok given at (suc v) i il cs p z = seen_input num c body (at_way Elsewhere cs) 0 i p (env v cs p) (sems v cs p) (given v cs p z)
 
       stand : EachStage (λ q s. stage_at its_stages q ≡ s) 0 its_stages
@@ -222,11 +216,11 @@ module _ {A : Type 0} (num : A → ℕ) (forms : MapForms A) (k : Kernel) (l : L
       all_seen stands ok given at private local =
           sight.works num long l few_items c body h.makes h.inputs b scope y typed 0 Outputs (λ p. p) (λ p. p) false stands (scoped ok given at) stand
           (record { inside = λ cs p z. z; returns = λ cs p z. refl; covers = λ cs p z. (z, refl); straight = λ a. absurd (true≢false (sym a)) })
-          (λ f u e. not_locals f u e) (λ e. omega arith) private local (omega arith) (omega arith)
+          (λ f u e. not_locals f u e) (λ e. omega arith) private local (as_many (more (load_count loads) (variable_count b))) (as_many (load_count loads))
 
       map_phases : IsOfInputs xs → StandsInGroup true b → num n < 2 ^ 31 → LoadsScalars loads x → HasType num src g xs (ArrayOf (num n) x) → AllGiven g env sems → IsLaid whole (ArrayOf (num n) y) outer path
           → ((cs : List Bool) (i : ℕ) (p : List ℕ) → IsPosition (ArrayOf (num n) y) cs (i ∷ p) → value cs (outer (i ∷ p)) ≡ scalars_of num sources (push (at_index i scalars) sems) b cs p)
-          → load_count loads + variable_count b ≤ k.variables → Declares long 0 b → DeclaresLocals long 0 b → IsOverGroups num forms l ins fence env term (λ cs p. laid_in Output 0 whole cs (outer p)) k.code → AreItsPhases num forms k l c lists fence owned term
+          → AtMost (more (load_count loads) (variable_count b)) (declared k) → Declares long 0 b → DeclaresLocals long 0 b → IsOverGroups num forms l ins fence env term (λ cs p. laid_in Output 0 whole cs (outer p)) k.code → AreItsPhases num forms k l c lists fence owned term
       map_phases inputs stands small ok typed_array given laid values room private local code =
           let given_array = input_given xs g env sems (ArrayOf (num n) x) 0 inputs typed_array given in
           let at = λ (i : ℕ) (il : i < num n) (cs : List Bool) (p : List ℕ) (z : IsPosition x cs p). given_array cs (i ∷ p) (il, z) in
@@ -278,7 +272,7 @@ module _ {A : Type 0} (num : A → ℕ) (forms : MapForms A) (k : Kernel) (l : L
 
     -- and through layouts and lets of inputs
     pub term_phases : (t : Term A) (g : ℕ → Ty) (env : ℕ → Marks) (sems : ℕ → Scalars) (outer path : List ℕ → List ℕ) (ty : Ty) → StandsOverGroups t → HasType num src g t ty → AllGiven g env sems → IsLaid whole ty outer path
-        → ((cs : List Bool) (p : List ℕ) → IsPosition ty cs p → value cs (outer p) ≡ scalars_of num sources sems t cs p) → variable_count t ≤ k.variables → Declares long 0 t → AreLong LocalArray long 0 (copy_lengths LocalMemory t)
+        → ((cs : List Bool) (p : List ℕ) → IsPosition ty cs p → value cs (outer p) ≡ scalars_of num sources sems t cs p) → AtMost (variable_count t) (declared k) → Declares long 0 t → AreLong LocalArray long 0 (copy_lengths LocalMemory t)
         → IsOverGroups num forms l ins fence env t (λ cs p. laid_in Output 0 whole cs (outer p)) k.code → AreItsPhases num forms k l c lists fence (λ a m. owner num l t (path (unflat whole m))) t
     term_phases (Reshape y a) g env sems outer path ty f x given laid values room private local code =
         let r = term_phases a g env sems (λ p. outer (result_position num y p)) (λ p. operand_position num y (path p)) x.0 f.1 x.1 given (laid_under num y x.0 ty whole outer path f.0 x.2 laid)
@@ -288,13 +282,13 @@ module _ {A : Type 0} (num : A → ℕ) (forms : MapForms A) (k : Kernel) (l : L
         let none = inputs_no_privates v f.0 in
         let e : 0 + private_count v ≡ 0 = omega arith in
         let r = term_phases b (push x.0 g) (push (argument_marks l ins num env 0 v) env) (push (scalars_of num sources sems v) sems) outer path ty f.1 x.2
-        (given_push g env sems x.0 (argument_marks l ins num env 0 v) (scalars_of num sources sems v) (input_given v g env sems x.0 0 f.0 x.1 given) given) laid values (omega arith)
+        (given_push g env sems x.0 (argument_marks l ins num env 0 v) (scalars_of num sources sems v) (input_given v g env sems x.0 0 f.0 x.1 given) given) laid values (most_second (variable_count v) (variable_count b) (declared k) room)
         (subst (λ z. Declares long z b) e private.1) (subst (λ z. AreLong LocalArray long 0 (z ++ copy_lengths LocalMemory b)) (inputs_no_copies LocalMemory v f.0) local) code in
         record { body = r.body; once = r.once; is = r.is; touches = r.touches; count = r.count; some_phase = r.some_phase; printed = r.printed }
     term_phases (Map WorkGroup n loads xs b) g env sems outer path ty f x given laid values room private local code =
         let none = inputs_no_privates xs f.0 in
         let e : 0 + private_count xs ≡ 0 = omega arith in
-        map_phases g env sems n loads xs b x.0 x.1 outer path x.5 f.0 f.1 x.2 x.3 x.4 given (subst (λ z. IsLaid whole z outer path) x.6 laid) (λ cs i p z. values cs (i ∷ p) (subst (λ w. IsPosition w cs (i ∷ p)) (sym x.6) z)) (omega arith)
+        map_phases g env sems n loads xs b x.0 x.1 outer path x.5 f.0 f.1 x.2 x.3 x.4 given (subst (λ z. IsLaid whole z outer path) x.6 laid) (λ cs i p z. values cs (i ∷ p) (subst (λ w. IsPosition w cs (i ∷ p)) (sym x.6) z)) (most_second (variable_count xs) (more (load_count loads) (variable_count b)) (declared k) room)
         (subst (λ z. Declares long z b) e private.1) (declares_locals long true 0 b f.1 (subst (λ z. AreLong LocalArray long 0 (z ++ copy_lengths LocalMemory b)) (inputs_no_copies LocalMemory xs f.0) local)) code
     term_phases _ g env sems outer path ty f x given laid values room private local code = absurd (assumption)
 
@@ -307,7 +301,7 @@ module _ {A : Type 0} (num : A → ℕ) (forms : MapForms A) (l : Launch) (src :
   its_phases : AreItsPhases num forms k l c lists fence of_owner t
   its_phases =
       term_phases num forms k l c lists ins src sources ty (scalars_of num sources no_scalars t) fence (record { launch = h.made.whole; flat = h.made.flat (not_in_rows t h.stands); some = h.made.some; few = h.made.few; makes = h.makes; inputs = h.made.inputs; flat_type = h.made.flat_type; outputs = h.made.outputs; shape = shape; listed = listed })
-      t no_type no_marks no_scalars (λ p. p) (λ p. p) ty h.stands h.made.typed (λ v cs p x. nothing cs p x) (laid_itself ty) (λ cs p x. refl) (let e = h.made.variables in omega arith)
+      t no_type no_marks no_scalars (λ p. p) (λ p. p) ty h.stands h.made.typed (λ v cs p x. nothing cs p x) (laid_itself ty) (λ cs p x. refl) (at_most (let e = h.made.variables in omega arith) (let e = h.made.vectors in omega arith))
       (declares (length_in k c) 0 t (λ i lt. let z : 0 + i ≡ i = omega arith in ap (λ j. slice_index k.privates j) z ∙ ap (λ ns. slice_index ns i) h.made.privates))
       (λ i lt. let z : 0 + i ≡ i = omega arith in ap (λ j. slice_index k.locals j) z ∙ ap (λ ns. slice_index ns i) h.locals) h.code
     where

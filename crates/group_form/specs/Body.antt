@@ -6,6 +6,7 @@ use Rattle.kernel_tree.specs.Launch.{Launch, Cells, groups_across}
 use Rattle.kernel_tree.specs.Device.{Cell, row}
 use Rattle.lift_ir.specs.Types.{Ty, Scalar, PairOf, ArrayOf, width, unflat}
 use Rattle.lift_ir.specs.Scalars.{Scalars, at_index}
+use Rattle.printed_form.specs.Counts.{Count}
 use Rattle.printed_form.specs.MapForms.{MapForms}
 use Rattle.printed_form.specs.Marks.{Marks, laid_in}
 use Rattle.group_phases.specs.Phases.{Place, TurnElement, PhaseList}
@@ -17,7 +18,7 @@ use Rattle.group_form.specs.Stages.{Stage, stage_at, uses_of, value_in}
 pub record GroupBody (A : Type 0) : Type 0 where
   pub once : Bool
   pub turns : ℕ
-  pub variables : ℕ
+  pub variables : Count
   pub forms : MapForms A
   pub ins : ℕ → Marks
   pub src : ℕ → Ty

@@ -8,7 +8,7 @@ use Rattle.barrier_placement.specs.Fencing.{Fencing}
 use Rattle.lift_ir.specs.Layouts.{result_position, IsInvertible}
 use Rattle.lift_ir.specs.Terms.{LoadSet, WorkGroup, Local, LocalMemory, Term, Bound, Source, Both, Project, Reshape, LetArray, Map, Copy, push}
 use Rattle.lift_ir.specs.Scalars.{at_index}
-use Rattle.printed_form.specs.Counts.{load_count, variable_count, private_count, local_count}
+use Rattle.printed_form.specs.Counts.{Count, more, no_variables, load_count, variable_count, private_count, local_count}
 use Rattle.printed_form.specs.Marks.{Marks, laid_in, loaded_marks}
 use Rattle.printed_form.specs.Form.{IsTurnOf, IsLength, IsLoaded, argument_marks, IsWritten}
 use Rattle.printed_form.specs.MapForms.{MapForm, MapForms, form_over_groups, statement_over_groups, variables_in, AreTurns}
@@ -21,7 +21,7 @@ use Rattle.group_form.specs.Uses.{phases_in}
 pub record Used : Type 0 where
   pub locals : ℕ
   pub privates : ℕ
-  pub variables : ℕ
+  pub variables : Count
   pub phases : ℕ
 
 -- and after a term's code
@@ -29,7 +29,7 @@ abbrev pub used_after : {A : Type 0} → Used → Term A → Used
 used_after u t = record {
   locals = u.locals + local_count t;
   privates = u.privates + private_count t;
-  variables = u.variables + variable_count t;
+  variables = more u.variables (variable_count t);
   phases = u.phases + phases_in t;
 }
 
@@ -54,7 +54,7 @@ module _ {A : Type 0} (num : A → ℕ) (forms : MapForms A) (l : Launch) (ins :
         × IsLoaded l item ins ts loads (at_index j (marks i)) u.variables body inner
         × IsWritten l item ins num ts
         (push (loaded_marks loads (at_index j (marks i)) u.variables) (env i)) u.privates
-        (u.variables + load_count loads) b (at_index j (w i)) inner last)
+        (more u.variables (load_count loads)) b (at_index j (w i)) inner last)
         code rest
 
     abbrev mutual
@@ -99,8 +99,9 @@ module _ {A : Type 0} (num : A → ℕ) (forms : MapForms A) (l : Launch) (ins :
     IsGroupTurn env loads marks b w code =
         (first last : Code)
         × ((item i : ℕ) → item < item_count l → i < turns → IsTurnOf l item WorkGroup i
-        → IsLoaded l item ins (variables_in outer [] i) loads (at_index i marks) 0 code first)
-        × IsGroupWritten (λ i. push (loaded_marks loads (at_index i marks) 0) env)
+        → IsLoaded l item ins (variables_in outer [] i) loads (at_index i marks) no_variables code
+        first)
+        × IsGroupWritten (λ i. push (loaded_marks loads (at_index i marks) no_variables) env)
         (record { locals = 0; privates = 0; variables = load_count loads; phases = 0 }) b
         (λ i. at_index i w) first last × IsPast (fence (phases_in b)) last End
 

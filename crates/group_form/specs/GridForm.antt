@@ -10,7 +10,7 @@ use Rattle.lift_ir.specs.Layouts.{result_position, IsInvertible}
 use Rattle.lift_ir.specs.Terms.{LoadSet, WorkGroup, Local, WorkGroupRows, LocalRows, LocalMemory, Term, Bound, Source, Both, Project, Reshape, LetArray, Map, Copy, push}
 use Rattle.lift_ir.specs.Scalars.{at_index}
 use Rattle.printed_form.specs.Arguments.{marks_in, local_arrays}
-use Rattle.printed_form.specs.Counts.{load_count, variable_count, private_count, local_count}
+use Rattle.printed_form.specs.Counts.{Count, more, no_variables, load_count, variable_count, private_count, local_count}
 use Rattle.printed_form.specs.Marks.{Marks, laid_in, loaded_marks}
 use Rattle.printed_form.specs.Form.{IsLength, IsLoaded, argument_marks, IsWritten}
 use Rattle.printed_form.specs.MapForms.{MapForm, form_over_groups, variables_in, TurnCode}
@@ -25,21 +25,23 @@ use Rattle.group_form.specs.Uses.{phases_in}
 
 module _ {A : Type 0} (num : A → ℕ) (forms : GridForms A) (l : Launch) (ins : ℕ → Marks) where
   -- a map along a row of a group, through layouts, as this item runs it in loops with these
-  -- variables: where its argument's first local array, its first private array and variable are these
-  abbrev pub IsAlongRow : (item : ℕ) → (locals privates variables : ℕ) → (env : ℕ → Marks) → Term A
-      → (to : Marks) → TurnCode
+  -- variables: where its argument's first local array, its first
+  -- private array and variable are these
+  abbrev pub IsAlongRow : (item : ℕ) → (locals privates : ℕ) → (variables : Count)
+      → (env : ℕ → Marks) → Term A → (to : Marks) → TurnCode
   IsAlongRow item k a n env (Reshape y t) w ts r code rest =
       IsInvertible y
       × IsAlongRow item k a n env t (λ cs p. w cs (result_position num y p)) ts r code rest
   IsAlongRow item k a n env (Map Local m loads xs b) w ts r code rest =
       AreTurnsFrom l item (forms.columns.local m) (FromLocalId X) (ByLocalSize X) ts (num m)
       (λ us j before after. (inner : Code)
-      × IsLoaded l item ins us loads (at_index j (marks_in local_arrays num ins env k xs)) (n
-      + variable_count xs) before inner
+      × IsLoaded l item ins us loads (at_index j (marks_in local_arrays num ins env k xs))
+      (more n (variable_count xs)) before inner
       × IsWritten l item ins num us
       (push
-      (loaded_marks loads (at_index j (marks_in local_arrays num ins env k xs)) (n
-      + variable_count xs)) env) (a + private_count xs) (n + variable_count xs + load_count loads) b
+      (loaded_marks loads (at_index j (marks_in local_arrays num ins env k xs))
+      (more n (variable_count xs))) env) (a + private_count xs)
+      (more (more n (variable_count xs)) (load_count loads)) b
       (at_index j w) inner after)
       code rest
   IsAlongRow item k a n env _ w ts r code rest = ⊥
@@ -70,7 +72,7 @@ module _ {A : Type 0} (num : A → ℕ) (forms : GridForms A) (l : Launch) (ins 
         (around_turn i) (num len)
         (λ ts r before after. (mid : Code)
         × IsLoaded l item ins ts loads (at_index r (marks i)) u.variables before mid
-        × IsAlongRow item u.locals u.privates (u.variables + load_count loads)
+        × IsAlongRow item u.locals u.privates (more u.variables (load_count loads))
         (push (loaded_marks loads (at_index r (marks i)) u.variables) (env i)) b (at_index r (w i))
         ts r mid after)
         code rest)
@@ -112,20 +114,21 @@ module _ {A : Type 0} (num : A → ℕ) (forms : GridForms A) (l : Launch) (ins 
 
     -- a turn: the loads of its element into variables from this on, the body's phases, and what
     -- closes
-    abbrev pub IsGridTurn : (first : ℕ) → (env : (turn var : ℕ) → Marks) → LoadSet
+    abbrev pub IsGridTurn : (first : Count) → (env : (turn var : ℕ) → Marks) → LoadSet
         → (marks : (turn : ℕ) → Marks) → (body : Term A) → (to : (turn : ℕ) → Marks) → Code
         → Type 0
     IsGridTurn n env loads marks b w code =
         (first last : Code)
         × AtTurns (λ item i. IsLoaded l item ins (around_turn i) loads (marks i) n code first)
         × IsGridWritten (λ i. push (loaded_marks loads (marks i) n) (env i))
-        (record { locals = 0; privates = 0; variables = n + load_count loads; phases = 0 }) b w
-        first last
+        (record { locals = 0; privates = 0; variables = more n (load_count loads); phases = 0 }) b
+        w first last
         × IsPast (fence (phases_in b)) last End
 
   -- a map over the groups of a row, through layouts, where a row's loads are in variables below n
-  abbrev pub IsAlongGroups : (fence : ℕ → Fencing) → (rows_form : MapForm) → (rows : ℕ) → (n : ℕ)
-      → (env : (row var : ℕ) → Marks) → Term A → (to : (row : ℕ) → Marks) → Code → Type 0
+  abbrev pub IsAlongGroups : (fence : ℕ → Fencing) → (rows_form : MapForm) → (rows : ℕ)
+      → (n : Count) → (env : (row var : ℕ) → Marks) → Term A → (to : (row : ℕ) → Marks) → Code
+      → Type 0
   IsAlongGroups fence rf rows n env (Reshape y t) w code =
       IsInvertible y
       × IsAlongGroups fence rf rows n env t (λ r cs p. w r cs (result_position num y p)) code
@@ -156,8 +159,9 @@ module _ {A : Type 0} (num : A → ℕ) (forms : GridForms A) (l : Launch) (ins 
       × IsLength l ins bound (num n)
       × ((item r : ℕ) → item < item_count l → r < num n → IsGroupRow l item r
       → IsLoaded l item ins (variables_in (form_over_groups (forms.rows.once n)) [] r) loads
-      (at_index r (argument_marks l ins num env 0 xs)) 0 body mid)
+      (at_index r (argument_marks l ins num env 0 xs)) no_variables body mid)
       × IsAlongGroups fence (form_over_groups (forms.rows.once n)) (num n) (load_count loads)
-      (λ r. push (loaded_marks loads (at_index r (argument_marks l ins num env 0 xs)) 0) env) b
+      (λ r. push
+      (loaded_marks loads (at_index r (argument_marks l ins num env 0 xs)) no_variables) env) b
       (λ r. at_index r w) mid
   IsOverGrid fence env _ w code = ⊥

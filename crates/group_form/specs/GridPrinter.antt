@@ -12,14 +12,15 @@ use Rattle.barrier_placement.specs.Fencing.{Fencing}
 use Rattle.lift_ir.specs.Types.{Shape, measured, IsPlaced}
 use Rattle.lift_ir.specs.Terms.{LoadSet, Term, Both, Project, Reshape, LetArray, Map, Copy, push, HasType, no_type}
 use Rattle.lift_ir.specs.AtLaunch.{shape_of}
+use Rattle.lift_ir.specs.Fours.{KeepsFours}
 use Rattle.lift_ir.specs.Loads.{none, LoadsSuffice}
 use Rattle.printed_form.specs.Arguments.{local_arrays, private_arrays, argument_view}
-use Rattle.printed_form.specs.Counts.{load_count, variable_count, private_count, local_count}
+use Rattle.printed_form.specs.Counts.{Count, more, no_variables, load_count, variable_count, private_count, local_count}
 use Rattle.printed_form.specs.MapForms.{MapForm, Looped, Guarded, Alone, form_over_groups}
 use Rattle.printed_form.specs.Means.{IsSpelled}
 use Rattle.printed_form.specs.Programs.{input_shape, first_buffer, declared_kernel, lowered_root}
 use Rattle.printed_form.specs.Printer.{print_loaded, print_written, no_view, input_views, input_marks}
-use Rattle.printed_form.specs.Views.{View, loaded_view, view_at, result_indices, placed_view, laid_view}
+use Rattle.printed_form.specs.Views.{View, loaded_view, view_at, rewritten_view, placed_view, laid_view}
 use Rattle.printed_form.specs.Whole.{no_marks, output_marks}
 use Rattle.group_phases.specs.Epochs.{fenced}
 use Rattle.group_phases.specs.Strides.{statement_of}
@@ -56,23 +57,23 @@ module _ {A : Type 0} (spell : A → Formula) (forms : GridForms A) (ins : ℕ �
     (fence : ℕ → Fencing) where
   -- a turn of a map along a row, up to what follows it
   abbrev pub print_place : (turn : Formula) → (inner_depth : ℕ) → (ℕ → View)
-      → (privates variables : ℕ) → LoadSet → (array : View) → (body : Term A) → (to : View)
-      → (rest : Code) → Code
+      → (privates : ℕ) → (variables : Count) → LoadSet → (array : View) → (body : Term A)
+      → (to : View) → (rest : Code) → Code
   print_place turn inner env a n loads x b w rest =
       print_loaded loads (view_at turn x) n
       (print_written spell ins inner (push (loaded_view loads (view_at turn x) n) env) a
-      (n + load_count loads) b (view_at turn w) rest)
+      (more n (load_count loads)) b (view_at turn w) rest)
 
   -- a map along a row of a group, in so many loops, and then the rest
-  abbrev pub print_along_row : (depth : ℕ) → (ℕ → View) → (locals privates variables : ℕ) → Term A
-      → (to : View) → (rest : Code) → Code
+  abbrev pub print_along_row : (depth : ℕ) → (ℕ → View) → (locals privates : ℕ)
+      → (variables : Count) → Term A → (to : View) → (rest : Code) → Code
   print_along_row depth env k a n (Reshape y t) w rest =
-      print_along_row depth env k a n t (λ cs is. w cs (result_indices spell y is)) rest
+      print_along_row depth env k a n t (rewritten_view spell y w) rest
   print_along_row depth env k a n (Map kind m loads xs b) w rest =
       print_turns_from (forms.columns.local m) (FromLocalId X) (ByLocalSize X) (spell m)
       (print_place (turn_from (forms.columns.local m) (FromLocalId X) depth)
-      (depth_in (forms.columns.local m) depth) env (a + private_count xs) (n + variable_count xs)
-      loads (argument_view local_arrays spell ins env k xs) b w) rest
+      (depth_in (forms.columns.local m) depth) env (a + private_count xs)
+      (more n (variable_count xs)) loads (argument_view local_arrays spell ins env k xs) b w) rest
   print_along_row depth env k a n _ w rest = rest
 
   -- a row of a phase, up to what follows it
@@ -81,7 +82,7 @@ module _ {A : Type 0} (spell : A → Formula) (forms : GridForms A) (ins : ℕ �
   print_row turn inner env u loads x b w rest =
       print_loaded loads (view_at turn x) u.variables
       (print_along_row inner (push (loaded_view loads (view_at turn x) u.variables) env) u.locals
-      u.privates (u.variables + load_count loads) b (view_at turn w) rest)
+      u.privates (more u.variables (load_count loads)) b (view_at turn w) rest)
 
   -- a local map over rows, and then the rest
   abbrev pub print_local_nest : (depth : ℕ) → (ℕ → View) → Used → A → LoadSet → (array : View)
@@ -110,7 +111,7 @@ module _ {A : Type 0} (spell : A → Formula) (forms : GridForms A) (ins : ℕ �
     pub print_grid_written : (depth : ℕ) → (ℕ → View) → Used → Term A → (to : View)
         → (rest : Code) → Code
     print_grid_written depth env u (Reshape l t) w rest =
-        print_grid_written depth env u t (λ cs is. w cs (result_indices spell l is)) rest
+        print_grid_written depth env u t (rewritten_view spell l w) rest
     print_grid_written depth env u (LetArray v b) w rest =
         print_grid_argument depth env u v
         (print_grid_written depth (push (argument_view local_arrays spell ins env u.locals v) env)
@@ -123,20 +124,20 @@ module _ {A : Type 0} (spell : A → Formula) (forms : GridForms A) (ins : ℕ �
     print_grid_written depth env u _ w rest = rest
 
   -- a turn of the map over the groups of a row, whose element stands so
-  abbrev pub print_grid_turn : (depth : ℕ) → (ℕ → View) → (variables : ℕ) → LoadSet
+  abbrev pub print_grid_turn : (depth : ℕ) → (ℕ → View) → (variables : Count) → LoadSet
       → (element : View) → (body : Term A) → (to : View) → Code
   print_grid_turn depth env n loads x b w =
       print_loaded loads x n
       (print_grid_written depth (push (loaded_view loads x n) env)
-      (record { locals = 0; privates = 0; variables = n + load_count loads; phases = 0 }) b w
+      (record { locals = 0; privates = 0; variables = more n (load_count loads); phases = 0 }) b w
       (fenced (fence (phases_in b)) End))
 
-  -- a map over the groups of a row, within so many loops, where a row's loads are in variables
-  -- below n
-  abbrev pub print_along_groups : (depth : ℕ) → (ℕ → View) → (variables : ℕ) → Term A → (to : View)
-      → Code
+  -- a map over the groups of a row, within so many loops, where a row's loads are in so many
+  -- variables
+  abbrev pub print_along_groups : (depth : ℕ) → (ℕ → View) → (variables : Count) → Term A
+      → (to : View) → Code
   print_along_groups depth env n (Reshape l t) w =
-      print_along_groups depth env n t (λ cs is. w cs (result_indices spell l is))
+      print_along_groups depth env n t (rewritten_view spell l w)
   print_along_groups depth env n (Map kind m loads xs b) w =
       let form = form_over_groups (forms.columns.once m) in
       let turn = turn_from form (FromGroupId X) depth in
@@ -147,7 +148,7 @@ module _ {A : Type 0} (spell : A → Formula) (forms : GridForms A) (ins : ℕ �
 
   -- a map over rows of groups, through layouts and lets of arrays, whose value goes there
   abbrev pub print_grid : (ℕ → View) → Term A → (to : View) → Code
-  print_grid env (Reshape l t) w = print_grid env t (λ cs is. w cs (result_indices spell l is))
+  print_grid env (Reshape l t) w = print_grid env t (rewritten_view spell l w)
   print_grid env (LetArray v b) w =
       print_grid (push (argument_view private_arrays spell ins env 0 v) env) b w
   print_grid env (Map kind n loads xs b) w =
@@ -155,12 +156,14 @@ module _ {A : Type 0} (spell : A → Formula) (forms : GridForms A) (ins : ℕ �
       let x = view_at (turn_from form (FromGroupId Y) 0)
       (argument_view private_arrays spell ins env 0 xs) in
       statement_of form (FromGroupId Y) (ByGroupCount Y) (spell n)
-      (print_loaded loads x 0
-      (print_along_groups (depth_in form 0) (push (loaded_view loads x 0) env) (load_count loads) b
+      (print_loaded loads x no_variables
+      (print_along_groups (depth_in form 0) (push (loaded_view loads x no_variables) env)
+      (load_count loads) b
       (view_at (turn_from form (FromGroupId Y) 0) w)))
   print_grid env _ w = End
 
--- the code of a map over rows of work-groups, where input v's arrays begin with the number `first v`
+-- the code of a map over rows of work-groups, where input v's arrays
+-- begin with the number `first v`
 abbrev pub grid_kernel_code : {A : Type 0} → (A → Formula) → GridForms A → (first : ℕ → ℕ)
     → (ℕ → Shape A) → (fence : ℕ → Fencing) → Term A → Shape A → Code
 grid_kernel_code spell forms first src fence t ty =
@@ -174,7 +177,7 @@ GridPrinterPrints A =
     (l : Launch) (num : A → ℕ) (forms : GridForms A) → MakeGridTurns forms num l
     → (spell : A → Formula) → ((n : A) → num n < 2 ^ 31 → IsSpelled l (spell n) (num n))
     → (first : ℕ → ℕ) (src : ℕ → Shape A) (fence : ℕ → Fencing) (t : Term A) (ty : Shape A)
-    → StandsOverGrid t
+    → StandsOverGrid t → KeepsFours t
     → HasType num (λ v. measured num (src v)) no_type t (measured num ty)
     → LoadsSuffice (λ v. none) t → IsPlaced num ty → ((v : ℕ) → IsPlaced num (src v))
     → IsOverGrid num forms l (input_marks num first src) fence no_marks t

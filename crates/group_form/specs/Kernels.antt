@@ -14,6 +14,7 @@ use Rattle.kernel_tree.specs.Launch.{Launch, Cells, MayStart}
 use Rattle.barrier_placement.specs.Fencing.{Fencing}
 use Rattle.barrier_placement.specs.Needed.{Needed}
 use Rattle.lift_ir.specs.Forms.{Stands, StandsOverLaunch}
+use Rattle.lift_ir.specs.Fours.{KeepsFours}
 use Rattle.lift_ir.specs.Lowerable.{IsStaged}
 use Rattle.lift_ir.specs.Lowering.{Lowered, Written}
 use Rattle.printed_form.specs.Headline.{EveryRunKeeps}
@@ -83,8 +84,8 @@ KernelsArePrinted =
     (p : Printer) (d : Declared) (asks : Asks) (bases : List ℕ) (t : Tree) (a : Annotation)
     (l : Launch) (spell : List Monomial → Formula) (fence : ℕ → Fencing)
     → IsLowerableProgram d bases t a → IsLaunchOf d asks bases t a l → IsStaged Written t a
-    → StandsForLaunch p l (lowered_root d.names t a) → FitsBuffers d bases a
-    → IsSpelling spell bases l → AreNeededBy p d asks.local fence t a
+    → StandsForLaunch p l (lowered_root d.names t a) → KeepsFours (lowered_root d.names t a)
+    → FitsBuffers d bases a → IsSpelling spell bases l → AreNeededBy p d asks.local fence t a
     → PrintsBy p d asks.local bases t a l (kernel_by p spell fence d asks.local t a)
 
 -- at each admissible launch, on all inputs, every run of a kernel that is printed for a typed term

@@ -2,7 +2,7 @@
 -- that are loaded.
 use Rattle.std.specs.Prelude.{ℕ, zero, suc, ◌==◌, Bool, true, false, List, [], ◌∷◌, ◌++◌, map, if◌then◌else◌}
 use Rattle.lift_ir.specs.Types.{Ty, Scalar, PairOf, ArrayOf}
-use Rattle.lift_ir.specs.Terms.{LoadSet, Skip, Take, Each, Term, Literal, Bound, Source, Apply, ApplyNumber, Select, Both, Project, Reshape, LetArray, LetElement, Map, Fold, Store, Copy}
+use Rattle.lift_ir.specs.Terms.{LoadSet, Skip, Take, TakeFour, Each, Term, Literal, Bound, Source, Apply, ApplyNumber, ApplyLanes, DivideLanes, Select, Both, Project, Reshape, LetArray, LetElement, Map, Fold, Store, Copy}
 
 -- a variable, and the pair choices that lead to a component of it; whatever lies under the last of
 -- these is meant
@@ -47,6 +47,7 @@ onward false ((false ∷ w) ∷ ws) = w ∷ onward false ws
 abbrev pub taken : LoadSet → List (List Bool)
 taken Skip = []
 taken Take = whole
+taken TakeFour = whole
 taken (Each a b) = map (λ w. false ∷ w) (taken a) ++ map (λ w. true ∷ w) (taken b)
 
 -- what a term names, where these ways of its own value are wanted. Of a pair under first and second
@@ -57,6 +58,8 @@ named (Bound v) ws = components_of v ws
 named (Source a) ws = []
 named (Apply o a b) ws = named a whole ++ named b whole
 named (ApplyNumber o n a) ws = named a whole
+named (ApplyLanes o l r a b) ws = named a whole ++ named b whole
+named (DivideLanes o n a) ws = named a whole
 named (Select c a b) ws = named c whole ++ (named a whole ++ named b whole)
 named (Both false a b) ws = named a whole ++ named b whole
 named (Both true a b) ws = named a (onward false ws) ++ named b (onward true ws)

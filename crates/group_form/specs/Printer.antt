@@ -12,15 +12,16 @@ use Rattle.barrier_placement.specs.Fencing.{Fencing}
 use Rattle.lift_ir.specs.Types.{Shape, measured, IsPlaced}
 use Rattle.lift_ir.specs.Terms.{Kind, Global, WorkGroup, Local, Sequential, GlobalRows, WorkGroupRows, LocalRows, LoadSet, Term, Both, Project, Reshape, LetArray, Map, Copy, push, HasType, no_type}
 use Rattle.lift_ir.specs.AtLaunch.{shape_of}
+use Rattle.lift_ir.specs.Fours.{KeepsFours}
 use Rattle.lift_ir.specs.Loads.{none, LoadsSuffice}
 use Rattle.printed_form.specs.Arguments.{local_arrays, private_arrays, argument_view}
-use Rattle.printed_form.specs.Counts.{load_count, local_count}
+use Rattle.printed_form.specs.Counts.{more, no_variables, load_count, local_count}
 use Rattle.printed_form.specs.Form.{start_of, stride_of}
 use Rattle.printed_form.specs.MapForms.{MapForm, Looped, Guarded, Alone, MapForms, MakeTurns, form_over_groups, statement_over_groups}
 use Rattle.printed_form.specs.Means.{IsSpelled}
 use Rattle.printed_form.specs.Programs.{input_shape, first_buffer, declared_kernel, lowered_root}
 use Rattle.printed_form.specs.Printer.{print_loaded, print_written, no_view, input_views, input_marks}
-use Rattle.printed_form.specs.Views.{View, loaded_view, view_at, result_indices, placed_view, laid_view}
+use Rattle.printed_form.specs.Views.{View, loaded_view, view_at, rewritten_view, placed_view, laid_view}
 use Rattle.printed_form.specs.Whole.{no_marks, output_marks}
 pub use Rattle.group_phases.specs.Epochs.{fenced}
 use Rattle.group_form.specs.ChosenForms.{forms_of}
@@ -68,7 +69,7 @@ module _ {A : Type 0} (spell : A → Formula) (forms : MapForms A) (ins : ℕ �
       print_loaded loads (view_at turn x) u.variables
       (print_written spell ins (depth_in (forms.local n) depth)
       (push (loaded_view loads (view_at turn x) u.variables) env) u.privates
-      (u.variables + load_count loads) b (view_at turn w) rest)
+      (more u.variables (load_count loads)) b (view_at turn w) rest)
 
   -- a local map in its form, in so many loops, and then the rest
   abbrev pub print_local_map : (depth : ℕ) → (ℕ → View) → Used → A → LoadSet → (array : View)
@@ -97,7 +98,7 @@ module _ {A : Type 0} (spell : A → Formula) (forms : MapForms A) (ins : ℕ �
     pub print_group_written : (depth : ℕ) → (ℕ → View) → Used → Term A → (to : View)
         → (rest : Code) → Code
     print_group_written depth env u (Reshape l t) w rest =
-        print_group_written depth env u t (λ cs is. w cs (result_indices spell l is)) rest
+        print_group_written depth env u t (rewritten_view spell l w) rest
     print_group_written depth env u (LetArray v b) w rest =
         print_group_argument depth env u v
         (print_group_written depth (push (argument_view local_arrays spell ins env u.locals v) env)
@@ -113,15 +114,14 @@ module _ {A : Type 0} (spell : A → Formula) (forms : MapForms A) (ins : ℕ �
   abbrev pub print_group_turn : (depth : ℕ) → (ℕ → View) → LoadSet → (element : View)
       → (body : Term A) → (to : View) → Code
   print_group_turn depth env loads x b w =
-      print_loaded loads x 0
-      (print_group_written depth (push (loaded_view loads x 0) env)
+      print_loaded loads x no_variables
+      (print_group_written depth (push (loaded_view loads x no_variables) env)
       (record { locals = 0; privates = 0; variables = load_count loads; phases = 0 }) b w
       (fenced (fence (phases_in b)) End))
 
   -- a map over work-groups, through layouts and lets of arrays, whose value goes there
   abbrev pub print_groups : (ℕ → View) → Term A → (to : View) → Code
-  print_groups env (Reshape l t) w =
-      print_groups env t (λ cs is. w cs (result_indices spell l is))
+  print_groups env (Reshape l t) w = print_groups env t (rewritten_view spell l w)
   print_groups env (LetArray v b) w =
       print_groups (push (argument_view private_arrays spell ins env 0 v) env) b w
   print_groups env (Map kind n loads xs b) w =
@@ -146,7 +146,7 @@ GroupPrinterPrints A =
     (l : Launch) (num : A → ℕ) (forms : MapForms A) → MakeTurns forms num l
     → (spell : A → Formula) → ((n : A) → num n < 2 ^ 31 → IsSpelled l (spell n) (num n))
     → (first : ℕ → ℕ) (src : ℕ → Shape A) (fence : ℕ → Fencing) (t : Term A) (ty : Shape A)
-    → StandsOverGroups t
+    → StandsOverGroups t → KeepsFours t
     → HasType num (λ v. measured num (src v)) no_type t (measured num ty)
     → LoadsSuffice (λ v. none) t → IsPlaced num ty → ((v : ℕ) → IsPlaced num (src v))
     → IsOverGroups num forms l (input_marks num first src) fence no_marks t

@@ -6,7 +6,7 @@ use Rattle.lift_ir.specs.Layouts.{operand_position, result_position}
 use Rattle.lift_ir.specs.Terms.{LoadSet, Skip, Term, Literal, Both, Project, Reshape, LetArray, Map, Copy, push, HasType, no_type}
 use Rattle.lift_ir.specs.Scalars.{Scalars, mapped, scalars_of}
 use Rattle.printed_form.specs.Arguments.{marks_in, local_arrays}
-use Rattle.printed_form.specs.Counts.{variable_count, private_count, local_count}
+use Rattle.printed_form.specs.Counts.{Count, more, no_variables, variable_count, private_count, local_count}
 use Rattle.printed_form.specs.MapForms.{Looped, MapForms}
 use Rattle.printed_form.specs.Marks.{Nowhere, Marks}
 use Rattle.group_phases.specs.Phases.{Phase}
@@ -36,7 +36,7 @@ pub record Scope : Type 0 where
   pub sems : (turn var : ℕ) → Scalars
   pub types : ℕ → Ty
   pub origins : ℕ → Origin
-  pub variables : ℕ
+  pub variables : Count
   pub privates : ℕ
   pub locals : ℕ
 
@@ -47,7 +47,7 @@ later s t = record {
   sems = s.sems;
   types = s.types;
   origins = s.origins;
-  variables = s.variables + variable_count t;
+  variables = more s.variables (variable_count t);
   privates = s.privates + private_count t;
   locals = s.locals + local_count t;
 }
@@ -65,7 +65,7 @@ module _ {A : Type 0} (num : A → ℕ) (ins : ℕ → Marks) (src : ℕ → Ty)
     sems = λ i. push (scalars_of num sources (s.sems i) v) (s.sems i);
     types = push u s.types;
     origins = push (origin_of s.origins s.locals v) s.origins;
-    variables = s.variables + variable_count v;
+    variables = more s.variables (variable_count v);
     privates = s.privates + private_count v;
     locals = s.locals + local_count v;
   }
@@ -84,7 +84,7 @@ module _ {A : Type 0} (num : A → ℕ) (forms : MapForms A) (ins : ℕ → Mark
       element = cut x (element_ways loads b);
       result = y;
       types = λ v. cut (s.types v) (ways v (named_outside b));
-      variables = s.variables + variable_count xs;
+      variables = more s.variables (variable_count xs);
       privates = s.privates + private_count xs;
       locals = s.locals + local_count xs;
     };
@@ -149,7 +149,7 @@ no_stage = record {
         element = Scalar;
         result = Scalar;
         types = no_type;
-        variables = 0;
+        variables = no_variables;
         privates = 0;
         locals = 0;
       };

@@ -1,6 +1,6 @@
--- A kernel that is a statement over rows of groups around a statement over the groups of a row takes
--- each group through its turns, row by row; a row's scalars are loaded where the row begins.
-use Rattle.std.proofs.Common.{◌≡◌, ℕ, ◌+◌, ◌*◌, ◌/◌, ◌%◌, ◌<◌, ◌≤◌, List, [], length, refl, sym, ap, ◌∙◌, subst, inl, arith}
+-- A kernel that is a statement over rows of groups around a statement over the groups of a row
+-- takes each group through its turns, row by row; a row's scalars are loaded where the row begins.
+use Rattle.std.proofs.Common.{◌≡◌, ℕ, ◌+◌, ◌*◌, ◌/◌, ◌%◌, ◌<◌, List, [], refl, sym, ap, ◌∙◌, subst, inl, arith}
 use Rattle.std.specs.Prelude.{map}
 use Rattle.std.proofs.lemmas.Nat.{div-add-mod'}
 use Rattle.std.proofs.Math.Nat.{mod-lt}
@@ -14,12 +14,13 @@ use Rattle.kernel_tree.specs.Rounds.{Loop}
 use Rattle.kernel_tree.proofs.Grouping.{group_in_launch, group_column, group_row_is}
 use Rattle.kernel_tree.proofs.Stride.{turn_below}
 use Rattle.barrier_placement.specs.Fencing.{Fencing}
-use Rattle.printed_form.specs.Counts.{load_count}
+use Rattle.printed_form.specs.Counts.{more, no_variables, load_count}
 use Rattle.printed_form.specs.MapForms.{variables_in}
-use Rattle.printed_form.specs.Marks.{Mark, Nowhere, Register, Spot}
-use Rattle.printed_form.specs.Runs.{Setting, Known, HoldsAt, known_after}
+use Rattle.printed_form.specs.Marks.{Mark, Nowhere, Register, Lane, Spot}
+use Rattle.printed_form.specs.Runs.{Fits, Setting, Known, HoldsAt, known_after}
 use Rattle.printed_form.specs.Whole.{IsGiven}
 use Rattle.printed_form.proofs.Cells.{loads_run}
+use Rattle.printed_form.proofs.Runs.{at_most, fewer, fits_later}
 use Rattle.group_phases.specs.Bodies.{HasInputs, CanHop}
 use Rattle.group_phases.specs.GridPhases.{GridList, group_turns, turn_at, IsGroupRow, HoldsRow, HoldsTurn, knows, work_of, row_variables, variables_at, IsPhase}
 use Rattle.group_phases.specs.GridPrinted.{IsGridKernel, IsGridPhased}
@@ -29,6 +30,7 @@ use Rattle.group_phases.specs.Hops.{Hops}
 use Rattle.group_phases.specs.Strides.{frames_in, statement_form}
 use Rattle.group_phases.specs.TurnForms.{Form, TakesTurns, nest_form}
 use Rattle.group_phases.proofs.Grids.{some_factor, place_row, place_column}
+use Rattle.group_phases.proofs.Held.{held_here}
 use Rattle.group_phases.proofs.Hops.{hops_of_form, hops_after, nest_hops, hops_turns}
 use Rattle.group_phases.proofs.Phased.{before_in, code_in, first_in, last_in}
 use Rattle.group_phases.proofs.Strides.{statement_takes, frames_variables, frames_still}
@@ -119,7 +121,7 @@ module _ {A : Type 0} (num : A → ℕ) (k : Kernel) (l : Launch) (c : Cells) (o
   -- what is known of the variables: there are enough; and they hold a row's scalars, and from phase
   -- 1 on a turn's
   abbrev Long : Vars → Type 0
-  Long vars = p.variables ≤ length vars.words
+  Long vars = Fits p.variables vars
 
   abbrev At : (j q u v : ℕ) → Vars → Type 0
   At j q u v vars =
@@ -136,19 +138,20 @@ module _ {A : Type 0} (num : A → ℕ) (k : Kernel) (l : Launch) (c : Cells) (o
   given_at j st x (Spot (Local a) i) v e f ready g = absurd g
   given_at j st x (Spot (Private a) i) v e f ready g = absurd g
   given_at j st x (Register r) v e f ready g = absurd g
+  given_at j st x (Lane r i) v e f ready g = absurd g
   given_at j st x Nowhere v e f ready g = absurd g
 
   loads : (j u : ℕ) → j < item_count l → u < rows_taken p.grid (walk j) → (vars : Vars) → Long vars → CanHop d j c (item printed.row_body ((rows j).frames u) vars) (λ y. (y ≡ item printed.row_rest ((rows j).frames u) y.vars) × AtRow j u y.vars)
   loads j u jl ul vars long o m ready =
       let st : Setting = record { device = d; item = j; owners = o; locals = 0 } in
-      let x : Known = record { memory = m; vars = vars; count = 0; arrays = 0 } in
+      let x : Known = record { memory = m; vars = vars; count = no_variables; arrays = 0 } in
       let r = (walk j).row + u * groups_down l in
       let low = turn_below p.grid.rows (groups_down l) (walk j).row u (group_walks l h.room.whole j jl).row ul in
       let own : IsGroupRow l j r = (u, ap (λ z. z + u * groups_down l) (sym (row_begins j jl))) in
       let base = h.room.after_top 0 h.room.some in
       let some = h.room.fits 0 h.room.some in
       let after = h.room.after_row 0 h.room.some in
-      let run = loads_run st (row_variables num l p r) ((rows j).frames u) (row_around j u jl) p.ins p.row_top.loads p.row_top.type (p.row_top.marks r) (p.row_top.scalars r) x printed.row_body printed.row_rest h.types.row_top_loads (printed.row_loads j r jl low own) (omega arith)
+      let run = loads_run st (row_variables num l p r) ((rows j).frames u) (row_around j u jl) p.ins p.row_top.loads p.row_top.type (p.row_top.marks r) (p.row_top.scalars r) x printed.row_body printed.row_rest h.types.row_top_loads (printed.row_loads j r jl low own) (fewer long (let a = base.words in let b = some.words in let e = after.words in omega arith) (let a = base.fours in let b = some.fours in let e = after.fours in omega arith))
       (λ cs q a. given_at j st x (p.row_top.marks r cs q) (p.row_top.scalars r cs q) refl refl ready (h.reads.row_top r low cs q a)) in
       record {
         after = item printed.row_rest ((rows j).frames u) run.after;
@@ -157,10 +160,10 @@ module _ {A : Type 0} (num : A → ℕ) (k : Kernel) (l : Launch) (c : Cells) (o
         so = (
           refl,
           (
-            subst (λ z. p.variables ≤ z) (sym run.later.kept.long) long,
+            fits_later long run.later.kept,
             λ v w b.
-                let z = subst (λ a. HoldsAt st (known_after x run.deeds run.after (0 + load_count p.row_top.loads) 0) a (p.row_top.scalars r b.0 b.1)) b.3 (run.good b.0 b.1 b.2) in
-                (let lt = z.0 in omega arith, z.1 ∙ b.4),
+                let y = known_after x run.deeds run.after (more no_variables (load_count p.row_top.loads)) 0 in
+                held_here st y (load_count p.row_top.loads) v w (at_most (omega arith) (omega arith)) (subst (λ z. HoldsAt st y v z) b.4 (subst (λ a. HoldsAt st y a (p.row_top.scalars r b.0 b.1)) b.3 (run.good b.0 b.1 b.2))),
           ),
         );
         allowed = run.allowed;
@@ -187,4 +190,4 @@ module _ {A : Type 0} (num : A → ℕ) (k : Kernel) (l : Launch) (c : Cells) (o
   pub grid_turns : GroupTurns k l c the_body (work_of num l p)
   grid_turns =
       hops_turns k l c the_body (work_of num l p) form (λ j. Long) (λ j. Long) all_rows (λ j. refl) (λ j. first) (λ j. sym (last_in fence (IsPhase num l p) 0 p.count printed.body printed.phases)) (λ t j. refl)
-      (λ j vars jl e. let r = h.room.variables in omega arith)
+      (λ j vars jl e. let r = h.room.variables in fewer e r.words r.fours)

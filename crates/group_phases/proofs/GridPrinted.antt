@@ -1,6 +1,6 @@
 -- Phases of two dimensions that are printed terms do the work of their turns, and so every kernel
 -- that is printed for them keeps the headline.
-use Rattle.std.proofs.Common.{◌≡◌, ℕ, zero, suc, ◌+◌, ◌*◌, ◌/◌, ◌%◌, ◌<◌, ◌≤◌, Bool, List, ◌∷◌, All, refl, sym, ap, ◌∙◌, subst, inl, ⊎_elim, arith}
+use Rattle.std.proofs.Common.{◌≡◌, ℕ, zero, suc, ◌+◌, ◌*◌, ◌/◌, ◌%◌, ◌<◌, Bool, List, ◌∷◌, All, refl, sym, ap, ◌∙◌, subst, inl, ⊎_elim, arith}
 use Rattle.std.proofs.Math.Nat.{mod-lt}
 use Rattle.kernel_tree.specs.declared.tree.Dimension.TheVariants.{X, Y}
 use Rattle.kernel_tree.specs.Formula.{Vars}
@@ -17,17 +17,17 @@ use Rattle.barrier_placement.specs.Laws.{NeededBarriersSeparate}
 use Rattle.barrier_placement.specs.Needed.{Needed}
 use Rattle.barrier_placement.specs.Separates.{Separates}
 use Rattle.printed_form.specs.Headline.{EveryRunKeeps}
-use Rattle.printed_form.specs.Marks.{Mark, Nowhere, Register, Spot, loaded_marks}
-use Rattle.printed_form.specs.Counts.{load_count, variable_count, private_count}
+use Rattle.printed_form.specs.Marks.{Mark, Nowhere, Register, Lane, Spot, loaded_marks}
+use Rattle.printed_form.specs.Counts.{more, no_variables, load_count, variable_count, private_count}
 use Rattle.printed_form.specs.Form.{IsLoaded}
 use Rattle.printed_form.specs.Runs.{Setting, Known, Kept, Scratch, spot_cell, Later, HoldsAt, Holds, DueAt, nothing, no_target, known_after}
 use Rattle.printed_form.specs.Whole.{IsGiven}
 use Rattle.printed_form.proofs.Cells.{loads_run}
 use Rattle.printed_form.proofs.Loops.{rest_is}
-use Rattle.printed_form.proofs.Runs.{later_same, holds_at_later}
+use Rattle.printed_form.proofs.Runs.{at_most, as_many, fewer, fits_later, later_same, holds_at_later}
 use Rattle.group_phases.specs.Bodies.{is_private, IsShared, IsReady, CanDo}
 use Rattle.group_phases.specs.Epochs.{IsPast, KeepsApart}
-use Rattle.group_phases.specs.GridPhases.{GridList, group_turns, turn_at, place_at, IsGroupRow, IsGroupColumn, targets, knows, work_of, variables_at, AtItsTurns, IsPhaseNest, IsPhase, IsRead, NothingHeld, IsHeldInRow, IsFillable}
+use Rattle.group_phases.specs.GridPhases.{GridList, group_turns, turn_row, turn_at, place_at, IsGroupRow, IsGroupColumn, targets, IsRowScalar, top_count, HoldsRow, knows, work_of, variables_at, AtItsTurns, IsPhaseNest, IsPhase, IsHeldScalar, IsRead, NothingHeld, IsHeldInRow, IsFillable}
 use Rattle.group_phases.specs.GridPrinted.{IsGridKernel, IsGridPhased}
 use Rattle.group_phases.specs.Grids.{Walk, IsWalk, places, rows_taken, columns_taken, group_walk, local_walk}
 use Rattle.group_phases.specs.Groups.{GroupPhases}
@@ -38,8 +38,9 @@ use Rattle.group_phases.specs.Work.{IsKnown}
 use Rattle.group_phases.proofs.Bodies.{silent_then}
 use Rattle.group_phases.proofs.Epochs.{some_apart}
 use Rattle.group_phases.proofs.GridKernel.{the_body, around, same_frames, grid_turns, group_walks}
-use Rattle.group_phases.proofs.Grids.{pair_below, place_row, place_column, place_below, pair_taken}
+use Rattle.group_phases.proofs.Grids.{pair_below, row_below, place_row, place_column, place_below, pair_taken}
 use Rattle.group_phases.proofs.Groups.{group_map_leaves, group_map_serves}
+use Rattle.group_phases.proofs.Held.{IsVariable, loaded_or, held_here, held_kept, knows_held}
 use Rattle.group_phases.proofs.Keeps.{keeps_from_chunks}
 use Rattle.group_phases.proofs.NestRows.{nest_run}
 use Rattle.group_phases.proofs.Parts.{part_of_run, scratch_private}
@@ -100,34 +101,47 @@ module _ {A : Type 0} (num : A → ℕ) (k : Kernel) (l : Launch) (c : Cells) (o
   at_turn : (P : (item i : ℕ) → Type 0) → AtItsTurns num l p P → (t j : ℕ) → j < item_count l → t < turns j → P j (turn_at l p t j)
   at_turn P is t j jl tl = is j (turn_at l p t j) jl (turn_in t j jl tl) (own_row t j jl tl) (own_column t j jl tl)
 
-  -- what may be read holds its scalar, where what else is held does
-  holds_at : (t q j : ℕ) (o : Owners) (m : Memory) (vars : Vars) (Held : ℕ → ℕ → Type 0) (z : Known) (x : Mark) (v : ℕ) → q < p.count → knows num l p t (suc q) j vars → Ready t q j o m (mine t q j) → Later (setting q j o) (before_places q m vars) z
-      → ((r a : ℕ) → Held r a → HoldsAt (setting q j o) z (Register r) a) → IsRead num k l c p t q j Held x v → HoldsAt (setting q j o) z x v
-  holds_at t q j o m vars Held z (Spot b i) v ql u ready later held r =
-      holds_at_later (setting q j o) (before_places q m vars) z (Spot b i) v later
-      (record { within = r.0; may = ready.may (cell_at l j b i) r.2; filled = r.1; holds = ready.holds (cell_at l j b i) r.2 ∙ r.3 })
-  holds_at t q j o m vars Held z (Register x) v ql u ready later held r =
+  -- a variable that holds a scalar of the row or of the turn, or else what is held
+  variable_holds : (t q j : ℕ) (o : Owners) (m : Memory) (vars : Vars) (Held : Mark → ℕ → Type 0) (z : Known) (x : Mark) (v : ℕ) → IsVariable x → q < p.count → knows num l p t (suc q) j vars → Later (setting q j o) (before_places q m vars) z
+      → ((r : Mark) (a : ℕ) → Held r a → HoldsAt (setting q j o) z r a) → IsHeldScalar num l p t j Held x v → HoldsAt (setting q j o) z x v
+  variable_holds t q j o m vars Held z x v is ql u later held r =
+      let st = setting q j o in
+      let y = before_places q m vars in
       let enough = h.room.after_top q ql in
+      let words = enough.words in
+      let fours = enough.fours in
       ⊎_elim
-      (λ a. let b = u.1 x v a in holds_at_later (setting q j o) (before_places q m vars) z (Register x) v later (let lt = b.0 in omega arith, b.1))
+      (λ a. holds_at_later st y z x v later (knows_held st y (load_count p.row_top.loads) x v (at_most (omega arith) (omega arith)) is (u.1 x v a)))
       (λ a. ⊎_elim
-      (λ a. let b = u.2 (omega arith) x v a in holds_at_later (setting q j o) (before_places q m vars) z (Register x) v later (let lt = b.0 in omega arith, b.1))
+      (λ a. holds_at_later st y z x v later (knows_held st y (top_count num l p) x v (at_most words fours) is (u.2 (omega arith) x v a)))
       (λ a. held x v a)
       a)
       r
+
+  -- what may be read holds its scalar, where what else is held does
+  holds_at : (t q j : ℕ) (o : Owners) (m : Memory) (vars : Vars) (Held : Mark → ℕ → Type 0) (z : Known) (x : Mark) (v : ℕ) → q < p.count → knows num l p t (suc q) j vars → Ready t q j o m (mine t q j) → Later (setting q j o) (before_places q m vars) z
+      → ((r : Mark) (a : ℕ) → Held r a → HoldsAt (setting q j o) z r a) → IsRead num k l c p t q j Held x v → HoldsAt (setting q j o) z x v
+  holds_at t q j o m vars Held z (Spot b i) v ql u ready later held r =
+      holds_at_later (setting q j o) (before_places q m vars) z (Spot b i) v later
+      (record { within = r.0; may = ready.may (cell_at l j b i) r.2; filled = r.1; holds = ready.holds (cell_at l j b i) r.2 ∙ r.3 })
+  holds_at t q j o m vars Held z (Register x) v ql u ready later held r = variable_holds t q j o m vars Held z (Register x) v tt ql u later held r
+  holds_at t q j o m vars Held z (Lane x i) v ql u ready later held r = variable_holds t q j o m vars Held z (Lane x i) v tt ql u later held r
   holds_at t q j o m vars Held z Nowhere v ql u ready later held r = absurd r
 
   due_at : (t q j : ℕ) (o : Owners) (m : Memory) (x : Mark) → Ready t q j o m (mine t q j) → IsFillable k c p q x → mine t q j (cell_of l j x) → DueAt (setting q j o) ((p.phase q).privates + private_count (p.phase q).body) x
   due_at t q j o m (Spot b i) ready f x = (f.0, ready.mine (cell_at l j b i) x, f.1)
   due_at t q j o m (Register r) ready f x = absurd f
+  due_at t q j o m (Lane r i) ready f x = absurd f
   due_at t q j o m Nowhere ready f x = absurd f
 
   kept_on : (t q j : ℕ) (vars later : Vars) → q < p.count → Kept (p.phase q).variables vars later → knows num l p t (suc q) j vars → knows num l p t (suc q) j later
   kept_on t q j vars later ql kept u =
-      let enough = h.room.after_top q ql in (
-        subst (λ z. p.variables ≤ z) (sym kept.long) u.0,
-        λ r v b. (let x = u.1 r v b in (x.0, kept.same r (let lt = x.0 in omega arith) ∙ x.1)),
-        λ some r v b. (let x = u.2 some r v b in (x.0, kept.same r (let lt = x.0 in omega arith) ∙ x.1)),
+      let enough = h.room.after_top q ql in
+      let words = enough.words in
+      let fours = enough.fours in (
+        fits_later u.0 kept,
+        λ r v b. held_kept (load_count p.row_top.loads) (p.phase q).variables vars later r v (at_most (omega arith) (omega arith)) kept (u.1 r v b),
+        λ some r v b. held_kept (top_count num l p) (p.phase q).variables vars later r v (at_most words fours) kept (u.2 some r v b),
       )
 
   -- an item's places of a phase
@@ -149,7 +163,7 @@ module _ {A : Type 0} (num : A → ℕ) (k : Kernel) (l : Launch) (c : Cells) (o
       let low = λ (a b : ℕ) (al : a < rows_taken f.grid w) (bl : b < columns_taken f.grid w). pair_below a b (rows_taken f.grid w) (columns_taken f.grid w) al bl in
       let inside = λ (a b : ℕ) (al : a < rows_taken f.grid w) (bl : b < columns_taken f.grid w).
       subst (λ z. z < places f.grid) (pair_taken f.grid w ok a b bl) (place_below f.grid w ok (a * columns_taken f.grid w + b) (low a b al bl)) in
-      let none = λ (r a : ℕ) (e : NothingHeld r a). absurd e in
+      let none = λ (r : Mark) (a : ℕ) (e : NothingHeld r a). absurd e in
       let r = nest_run st num p.ins p.src p.sources (λ a n. ready.own (spot_cell st (Private a) n) (refl, refl)) f at (FromLocalId Y) (FromLocalId X) (ByLocalSize Y) (ByLocalSize X) w ok refl refl refl refl
       (h.room.phase_rows q ql) (h.room.phase_columns q ql) (h.room.phase_rows_made q ql) (h.room.phase_columns_made q ql)
       (h.types.row_loads q ql) (h.types.loads q ql) (h.types.typed q ql) (h.types.declares q ql) after_row (h.fills.places_differ i q j il ql)
@@ -162,18 +176,18 @@ module _ {A : Type 0} (num : A → ℕ) (k : Kernel) (l : Launch) (c : Cells) (o
         choices = λ cs ds s r2 y z e. h.fills.choices i q j il ql cs ds (number ∷ s) (number ∷ r2) (here, y) (here, z) e;
         places = λ cs ds s r2 y z e. rest_is number number s r2 (h.fills.places_differ i q j il ql cs ds (number ∷ s) (number ∷ r2) (here, y) (here, z) e);
       })
-      m vars (omega arith)
+      m vars (fewer enough fits.words fits.fours)
       (λ a al cs s y. holds_at t q j o m vars NothingHeld x (at.row_marks cs (row a ∷ s)) (at.row_scalars cs (row a ∷ s)) ql u ready (later_same st x) none (h.reads.rows t q j a tl ql jl al cs s y))
       (λ a al z later good.
       let Held = IsHeldInRow f at (row a) in
-      let held = λ (r3 v3 : ℕ) (e : Held r3 v3). subst (λ y. HoldsAt st z (Register r3) y) e.4 (subst (λ y. HoldsAt st z y (at.row_scalars e.0 (row a ∷ e.1))) e.3 (good e.0 e.1 e.2)) in (
+      let held = λ (r3 : Mark) (v3 : ℕ) (e : Held r3 v3). subst (λ y. HoldsAt st z r3 y) e.4 (subst (λ y. HoldsAt st z y (at.row_scalars e.0 (row a ∷ e.1))) e.3 (good e.0 e.1 e.2)) in (
         λ v cs s y. holds_at t q j o m vars Held z (at.env (row a) v cs s) (at.sems (row a) v cs s) ql u ready later held (h.reads.envs t q j a v tl ql jl al cs s y),
         λ b bl cs s y. holds_at t q j o m vars Held z (at.marks (row a) cs (column b ∷ s)) (at.scalars (row a) cs (column b ∷ s)) ql u ready later held (h.reads.elements t q j a b tl ql jl al bl cs s y),
       ))
       (λ v cs s y. holds_at t q j o m vars NothingHeld x (p.ins v cs s) (p.sources v cs s) ql u ready (later_same st x) none (h.reads.inputs t q j v tl ql jl cs s y))
       fs (variables_at num l p i) ts code rest (at_turn _ is t j jl tl)
       in
-      part_of_run d j (p.locals q) o m vars f.variables f.privates fs code rest (f.inner + load_count f.loads + variable_count f.body) (f.privates + private_count f.body) (Scratch f.privates (f.privates + private_count f.body))
+      part_of_run d j (p.locals q) o m vars f.variables f.privates fs code rest (more (more f.inner (load_count f.loads)) (variable_count f.body)) (f.privates + private_count f.body) (Scratch f.privates (f.privates + private_count f.body))
       (PlacesOf st num p.sources f at w) (λ z. Unit {0}) (mine t q j) (p.value (group_of l j) t) (knows num l p t (suc q) j)
       (λ b y. (y.1, y.2, (y.3, y.4, y.5, y.6, ap (p.value (group_of l j) t) y.6 ∙ h.fills.valued t q j tl ql jl y.3 (place_at l p q j y.1 ∷ y.4) (place_below f.grid w ok y.1 y.2, y.5))))
       (λ b v y. let z = y.2 in (tl, y.0, y.1, z.0, z.1, z.2, z.3))
@@ -189,7 +203,24 @@ module _ {A : Type 0} (num : A → ℕ) (k : Kernel) (l : Launch) (c : Cells) (o
   given_at t j o m vars (Spot (Local b) i) v target ready g = absurd g
   given_at t j o m vars (Spot (Private b) i) v target ready g = absurd g
   given_at t j o m vars (Register x) v target ready g = absurd g
+  given_at t j o m vars (Lane x i) v target ready g = absurd g
   given_at t j o m vars Nowhere v target ready g = absurd g
+
+  -- so it is of a scalar that the row holds
+  row_at : (t j : ℕ) (o : Owners) (m : Memory) (vars : Vars) (x : Mark) (v : ℕ) (target : Cell → Type 0) → t < turns j → j < item_count l → Ready t 0 j o m target → HoldsRow num l p (turn_row l p t j) vars → IsRowScalar num l p (turn_row l p t j) x v → HoldsAt (setting 0 j o) (before_loads m vars) x v
+  row_at t j o m vars x v target tl jl ready held r =
+      let st = setting 0 j o in
+      let y = before_loads m vars in
+      let n = turn_row l p t j in
+      let w = group_walk l (group_of l j) in
+      let low : n < p.grid.rows = row_below p.grid w (group_walks l h.room.whole j jl) t tl in
+      let loaded = loaded_marks p.row_top.loads (p.row_top.marks n) no_variables r.0 r.1 in
+      subst (λ z. HoldsAt st y x z) r.4
+      (subst (λ z. HoldsAt st y z (p.row_top.scalars n r.0 r.1)) r.3
+      (⊎_elim
+      (λ is. knows_held st y (load_count p.row_top.loads) loaded (p.row_top.scalars n r.0 r.1) (as_many (load_count p.row_top.loads)) is (held loaded (p.row_top.scalars n r.0 r.1) (r.0, r.1, r.2, refl, refl)))
+      (λ same. subst (λ z. HoldsAt st y z (p.row_top.scalars n r.0 r.1)) (sym same) (given_at t j o m vars (p.row_top.marks n r.0 r.1) (p.row_top.scalars n r.0 r.1) target ready (h.reads.row_top n low r.0 r.1 r.2)))
+      (loaded_or p.row_top.loads p.row_top.type (p.row_top.marks n) no_variables r.0 r.1 h.types.row_top_loads r.2)))
 
   -- the loads of the turn's scalars
   loads_do : (t j : ℕ) → t < turns j → j < item_count l → (fs : List Frame) → loop_variables fs ≡ variables_at num l p (turn_at l p t j) → (code mid : Code) → AtItsTurns num l p (λ item i. IsLoaded l item p.ins (variables_at num l p i) p.top.loads (p.top.marks i) (load_count p.row_top.loads) code mid)
@@ -204,15 +235,22 @@ module _ {A : Type 0} (num : A → ℕ) (k : Kernel) (l : Launch) (c : Cells) (o
       let after = h.room.after_row 0 h.room.some in
       let long = u.0 in
       let low = load_count p.row_top.loads in
-      let r = loads_run st (variables_at num l p i) fs ts p.ins p.top.loads p.top.type (p.top.marks i) (p.top.scalars i) x code mid h.types.top_loads (at_turn _ is t j jl tl) (omega arith)
-      (λ cs s z. given_at t j o m vars (p.top.marks i cs s) (p.top.scalars i cs s) (λ b. ⊥) ready (h.reads.top i il cs s z)) in
-      part_of_run d j (p.locals 0) o m vars low (p.phase 0).privates fs code mid (low + load_count p.top.loads) (p.phase 0).privates nothing no_target (λ y. Holds st y p.top.type (loaded_marks p.top.loads (p.top.marks i) low) (p.top.scalars i)) (λ b. ⊥) (p.value (group_of l j) t) (knows num l p t 1 j)
+      let r = loads_run st (variables_at num l p i) fs ts p.ins p.top.loads p.top.type (p.top.marks i) (p.top.scalars i) x code mid h.types.top_loads (at_turn _ is t j jl tl)
+      (fewer long (let a = room.words in let b = base.words in let e = after.words in omega arith) (let a = room.fours in let b = base.fours in let e = after.fours in omega arith))
+      (λ cs s z.
+      let e = p.top.marks i cs s in
+      let v = p.top.scalars i cs s in
+      ⊎_elim
+      (λ g. given_at t j o m vars e v (λ b. ⊥) ready g)
+      (λ g. row_at t j o m vars e v (λ b. ⊥) tl jl ready u.1 (subst (λ r. IsRowScalar num l p r e v) (place_row p.grid (group_walk l (group_of l j)) (group_walks l h.room.whole j jl) t tl) g))
+      (h.reads.top i il cs s z)) in
+      part_of_run d j (p.locals 0) o m vars low (p.phase 0).privates fs code mid (more low (load_count p.top.loads)) (p.phase 0).privates nothing no_target (λ y. Holds st y p.top.type (loaded_marks p.top.loads (p.top.marks i) low) (p.top.scalars i)) (λ b. ⊥) (p.value (group_of l j) t) (knows num l p t 1 j)
       (λ b z. absurd z) (λ b v z. z) (λ b z s. z) r (
-        subst (λ z. p.variables ≤ z) (sym r.later.kept.long) long,
-        λ v w b. (let z = u.1 v w b in (z.0, r.later.kept.same v z.0 ∙ z.1)),
+        fits_later long r.later.kept,
+        λ v w b. held_kept low low vars r.after v w (as_many low) r.later.kept (u.1 v w b),
         λ some v w b.
-            (let z = subst (λ a. HoldsAt st (known_after x r.deeds r.after (low + load_count p.top.loads) (p.phase 0).privates) a (p.top.scalars i b.0 b.1)) b.3 (r.good b.0 b.1 b.2) in
-            (z.0, z.1 ∙ b.4)),
+            (let y = known_after x r.deeds r.after (more low (load_count p.top.loads)) (p.phase 0).privates in
+            held_here st y (top_count num l p) v w (as_many (top_count num l p)) (subst (λ z. HoldsAt st y v z) b.4 (subst (λ a. HoldsAt st y a (p.top.scalars i b.0 b.1)) b.3 (r.good b.0 b.1 b.2)))),
       )
 
   known_shared : (t q j : ℕ) (b : Cell) → known t q j b → IsShared b

@@ -21,12 +21,13 @@ use Rattle.barrier_placement.specs.Conflicts as placed
 use Rattle.barrier_placement.specs.Conflicts.{Conflict, space_of}
 use Rattle.barrier_placement.specs.Fencing.{Fencing, Open, Fenced, orders}
 use Rattle.barrier_placement.specs.Separates.{bit}
+use Rattle.printed_form.specs.Runs.{Fits}
 use Rattle.group_phases.specs.Bodies.{is_private, IsShared, IsOwnPrivate, Part, Hop, CanHop}
 use Rattle.group_phases.specs.Cells.{input_cell, output_cell, local_cell, IsOwnOutput}
 use Rattle.group_phases.specs.Written.{is_global, IsGlobal, is_input, Writes, Nothing, DoneBy, LeavesOtherGroups}
 use Rattle.group_phases.specs.Epochs.{IsPast, passed, each_turn, epoch_in}
 use Rattle.group_phases.specs.Work.{Work, IsOwnLocal, IsFilledEarlier, owners_in, IsKnown}
-use Rattle.group_phases.specs.Groups.{Body, GroupPhases, GroupOutputs, IsBefore, GroupTurns}
+use Rattle.group_phases.specs.Groups.{Body, GroupPhases, declared, GroupOutputs, IsBefore, GroupTurns}
 use Rattle.group_phases.specs.Outcome.{LeavesOutputs, SomeRunLeaves, BarriersServe, BarriersServeAll}
 use Rattle.group_phases.proofs.Written.{untouched, input_shared, writes_as, writes_more, writes_then, writes_first, writes_nothing, writes_release, writes_hop, writes_item, leaves_on}
 use Rattle.group_phases.proofs.Laps.{Members, members, Step, Lap, lapped}
@@ -455,7 +456,7 @@ module _ (kernel : Kernel) (l : Launch) (c : Cells) (owner : (array index : ℕ)
 
       -- what each group owes: from the start it goes through its body.turns
       abbrev GroupReaches : Type 0
-      GroupReaches = (s : State) (vars : ℕ → Vars) → ((k : ℕ) → group_of l k ≡ g → s.items k ≡ item kernel.code [] (vars k)) → ((k : ℕ) → group_of l k ≡ g → length (vars k).words ≡ kernel.variables) → s.epochs g LocalFence ≡ 0 → Given s.memory → Reaches g s (DoneGroup g) Over
+      GroupReaches = (s : State) (vars : ℕ → Vars) → ((k : ℕ) → group_of l k ≡ g → s.items k ≡ item kernel.code [] (vars k)) → ((k : ℕ) → group_of l k ≡ g → Fits (declared kernel) (vars k)) → s.epochs g LocalFence ≡ 0 → Given s.memory → Reaches g s (DoneGroup g) Over
 
       module _ (m : GroupTurns kernel l c body work) where
         -- the items of the group stand before turn t
@@ -546,7 +547,7 @@ module _ (kernel : Kernel) (l : Launch) (c : Cells) (owner : (array index : ℕ)
           let in_range = λ (k : ℕ) (e : group_of l k ≡ m). in_launch l h.whole m k le e in
           let b = all_reach m le a.state begun.vars
           (λ k e. a.later k (omega arith) ∙ begun.items k (in_range k e))
-          (λ k e. begun.long k (in_range k e))
+          (λ k e. let words = begun.long k (in_range k e) in let fours = begun.wide k (in_range k e) in record { words = omega arith; fours = omega arith })
           (ap (λ f. f LocalFence) (a.epochs m (omega arith)) ∙ begun.epochs m LocalFence)
           (λ b i. a.writes.inputs b i)
           in

@@ -1,5 +1,5 @@
 -- Nests of forms with more than moves between their turns.
-use Rattle.std.proofs.Common.{◌≡◌, ℕ, zero, suc, ◌+◌, ◌*◌, ◌/◌, ◌%◌, ◌-◌, ◌<◌, ◌≤◌, List, [], ◌++◌, length, refl, sym, ap, ◌∙◌, subst, ⊎_elim, arith}
+use Rattle.std.proofs.Common.{◌≡◌, ℕ, zero, suc, ◌+◌, ◌*◌, ◌/◌, ◌%◌, ◌-◌, ◌<◌, ◌≤◌, List, [], ◌++◌, refl, sym, ap, ◌∙◌, subst, ⊎_elim, arith}
 use Rattle.std.proofs.lemmas.Bool.{cases_lt}
 use Rattle.std.proofs.lemmas.Nat.{div-mul-add, mod-mul-add, div-add-mod'}
 use Rattle.std.proofs.Math.Nat.{mod-lt, mul-le-mul_right}
@@ -12,9 +12,10 @@ use Rattle.kernel_tree.specs.Deeds.{written}
 use Rattle.kernel_tree.specs.Independent.{IsAllowed}
 use Rattle.kernel_tree.proofs.Deeds.{goes_on}
 use Rattle.kernel_tree.proofs.Turns.{every-append, write_count-append}
+use Rattle.printed_form.specs.Runs.{Fits}
 use Rattle.group_phases.specs.Bodies.{Hop, CanHop}
 use Rattle.group_phases.specs.Cells.{input_cell}
-use Rattle.group_phases.specs.Groups.{Body, IsBefore, GroupTurns}
+use Rattle.group_phases.specs.Groups.{Body, declared, IsBefore, GroupTurns}
 use Rattle.group_phases.specs.Hops.{IsAtTurn, Hops}
 use Rattle.group_phases.specs.TurnForms.{Form, TakesTurns, place, nest_form}
 use Rattle.group_phases.specs.Work.{Work}
@@ -145,7 +146,7 @@ module _ (d : Device) (k : ℕ) (c : Cells) where
 module _ (kernel : Kernel) (l : Launch) (c : Cells) (body : Body) (work : Work) (form : ℕ → Form) (Pre Post : ℕ → Vars → Type 0)
     (hops : (k : ℕ) → k < item_count l → Hops (device_of kernel l c) k c [] kernel.code End (form k) (Pre k) (λ t. work.knows t 0 k) (λ t. work.knows t body.count k) (Post k))
     (count : (k : ℕ) → (form k).count ≡ body.turns (group_of l k)) (first : (k : ℕ) → (form k).first ≡ body.before 0) (last : (k : ℕ) → (form k).last ≡ body.code body.count) (frames : (t k : ℕ) → (form k).frames t ≡ body.frames t k)
-    (begins : (k : ℕ) (vars : Vars) → k < item_count l → length vars.words ≡ kernel.variables → Pre k vars) where
+    (begins : (k : ℕ) (vars : Vars) → k < item_count l → Fits (declared kernel) vars → Pre k vars) where
   before : (t k : ℕ) (y : Item) → IsAtTurn (form k) [] End (λ t. work.knows t 0 k) (Post k) t y → IsBefore l body work t k y
   unfolding next
   before t k y x = record {

@@ -9,6 +9,7 @@ pub mod Laps
 pub mod Groups
 pub mod GroupForms
 pub mod Hops
+pub mod Held
 pub mod Phased
 pub mod Keeps
 pub mod LocalLoop

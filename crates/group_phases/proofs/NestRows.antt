@@ -1,6 +1,6 @@
 -- An item takes the places of a nest of two maps, each in its form: row by row, and of each row
 -- place by place.
-use Rattle.std.proofs.Common.{◌≡◌, ℕ, zero, suc, ◌+◌, ◌*◌, ◌/◌, ◌%◌, ◌<◌, ◌≤◌, ◌^◌, Bool, List, [], ◌∷◌, length, Some, refl, sym, ap, ◌∙◌, subst, inl, arith}
+use Rattle.std.proofs.Common.{◌≡◌, ℕ, zero, suc, ◌+◌, ◌*◌, ◌/◌, ◌%◌, ◌<◌, ◌≤◌, ◌^◌, Bool, List, [], ◌∷◌, Some, refl, sym, ap, ◌∙◌, subst, inl, arith}
 use Rattle.std.proofs.lemmas.Nat.{div-mul-add, mod-mul-add}
 use Rattle.kernel_tree.specs.Formula.{Vars}
 use Rattle.kernel_tree.specs.Code.{Private, Start, Stride, start_value, stride_value, Code, End, then_rest}
@@ -11,14 +11,14 @@ use Rattle.kernel_tree.proofs.Stride.{turn_below}
 use Rattle.lift_ir.specs.Types.{Ty, ArrayOf, IsPosition}
 use Rattle.lift_ir.specs.Terms.{push, HasType, LoadsScalars}
 use Rattle.lift_ir.specs.Scalars.{Scalars, at_index, mapped, scalars_of}
-use Rattle.printed_form.specs.Counts.{load_count, variable_count, private_count}
+use Rattle.printed_form.specs.Counts.{Count, more, AtMost, load_count, variable_count, private_count}
 use Rattle.printed_form.specs.Form.{Declares}
 use Rattle.printed_form.specs.Marks.{Marks, loaded_marks}
-use Rattle.printed_form.specs.Runs.{Setting, Known, Scratch, spot_cell, mark_cell, Later, Holds, AllHold, Due, Targets, known_after, Ran}
+use Rattle.printed_form.specs.Runs.{Fits, Setting, Known, Scratch, spot_cell, mark_cell, Later, Holds, AllHold, Due, Targets, known_after, Ran}
 use Rattle.printed_form.proofs.Cells.{loads_run}
 use Rattle.printed_form.proofs.Loops.{at, ran_from, Rows, due_unscratched, rest_is}
 use Rattle.printed_form.proofs.Rest.{loaded_on, written_on}
-use Rattle.printed_form.proofs.Runs.{later_same, later_on, holds_later, all_hold_later, ran_on, after_silence}
+use Rattle.printed_form.proofs.Runs.{at_most, fewer, fits_later, later_same, later_on, holds_later, all_hold_later, ran_on, after_silence}
 use Rattle.printed_form.proofs.Writes.{ran_as}
 use Rattle.group_phases.specs.Grids.{Walk, IsWalk, places, rows_taken, columns_taken, place_taken}
 use Rattle.group_phases.specs.NestRows.{Nest, NestPlace, nest_scalars, one_map, IsPlaceCode, IsRowCode, IsNestCode, PlacesOf, MapsAreNests}
@@ -57,8 +57,8 @@ module _ (st : Setting) {A : Type 0} (num : A → ℕ) (ins : ℕ → Marks) (sr
   abbrev pub values : Scalars
   values = nest_scalars num sources n p
 
-  abbrev pub last_count : ℕ
-  last_count = n.inner + load_count n.loads + variable_count n.body
+  abbrev pub last_count : Count
+  last_count = more (more n.inner (load_count n.loads)) (variable_count n.body)
 
   abbrev pub last_arrays : ℕ
   last_arrays = n.privates + private_count n.body
@@ -77,10 +77,10 @@ module _ (st : Setting) {A : Type 0} (num : A → ℕ) (ins : ℕ → Marks) (sr
   PlaceRows u = Rows st column n.result (in_row cols (row u) p.to) (mapped (λ z. scalars_of num sources (push z (p.sems (row u))) n.body) (p.scalars (row u))) (columns_taken n.grid w)
 
   module _ (row_suits : LoadsScalars n.row_loads n.row_element) (suits : LoadsScalars n.loads n.element) (typed : HasType num src (push n.element n.types) n.body n.result) (long : Declares st.device.lengths n.privates n.body)
-      (after_row : n.variables + load_count n.row_loads ≤ n.inner)
+      (after_row : AtMost (more n.variables (load_count n.row_loads)) n.inner)
       (apart : (cs ds : List Bool) (q r : List ℕ) → IsPosition (ArrayOf (places n.grid) n.result) cs q → IsPosition (ArrayOf (places n.grid) n.result) ds r → mark_cell st (p.to cs q) ≡ mark_cell st (p.to ds r) → q ≡ r)
       (dues : (u v : ℕ) → u < rows_taken n.grid w → v < columns_taken n.grid w → Due st last_arrays n.result (at_index (row u * cols + column v) p.to))
-      (m : Memory) (vars : Vars) (room : last_count ≤ length vars.words)
+      (m : Memory) (vars : Vars) (room : Fits last_count vars)
       (row_holds : (u : ℕ) → u < rows_taken n.grid w → Holds st (before_nest m vars) n.row_element (at_index (row u) p.row_marks) (at_index (row u) p.row_scalars))
       (holds : (u : ℕ) → u < rows_taken n.grid w → (z : Known) → Later st (before_nest m vars) z → Holds st z n.row_element (loaded_marks n.row_loads (at_index (row u) p.row_marks) n.variables) (at_index (row u) p.row_scalars)
       → AllHold st z n.types (p.env (row u)) (p.sems (row u)) × ((v : ℕ) → v < columns_taken n.grid w → Holds st z n.element (at_index (column v) (p.marks (row u))) (at_index (column v) (p.scalars (row u)))))
@@ -126,20 +126,22 @@ module _ (st : Setting) {A : Type 0} (num : A → ℕ) (ins : ℕ → Marks) (sr
     one_row u ul m2 vars2 later gs2 before after k =
         let y = at x m2 vars2 in
         let us = loop_variables gs2 in
-        let low = n.variables + load_count n.row_loads in
-        let long1 : last_count ≤ length vars2.words = subst (λ q. last_count ≤ q) (sym later.kept.long) room in
+        let low = more n.variables (load_count n.row_loads) in
+        let long1 = fits_later room later.kept in
+        let more_words = after_row.words in
+        let more_fours = after_row.fours in
         let here = holds_later st x y n.row_element (at_index (row u) p.row_marks) (at_index (row u) p.row_scalars) later (row_holds u ul) in
-        let r = loads_run st us gs2 refl ins n.row_loads n.row_element (at_index (row u) p.row_marks) (at_index (row u) p.row_scalars) y before k.0 row_suits k.1 (omega arith) here in
+        let r = loads_run st us gs2 refl ins n.row_loads n.row_element (at_index (row u) p.row_marks) (at_index (row u) p.row_scalars) y before k.0 row_suits k.1 (fewer long1 (omega arith) (omega arith)) here in
         let z = known_after y r.deeds r.after low n.privates in
         let z2 : Known = record { memory = z.memory; vars = z.vars; count = n.inner; arrays = n.privates } in
         let still = later_same st z in
-        let raise : Later st z z2 = record { more = after_row; more_arrays = omega arith; kept = still.kept; same = still.same } in
+        let raise : Later st z z2 = record { more = more_words; more_fours = more_fours; more_arrays = omega arith; kept = still.kept; same = still.same } in
         let up2 = later_on st x z z2 (later_on st x y z later r.later) raise in
         let good = holds_later st z z2 n.row_element (loaded_marks n.row_loads (at_index (row u) p.row_marks) n.variables) (at_index (row u) p.row_scalars) raise r.good in
         let at_z = holds u ul z2 up2 good in
-        let long2 : last_count ≤ length r.after.words = subst (λ q. last_count ≤ q) (sym r.later.kept.long) long1 in
+        let long2 = fits_later long1 r.later.kept in
         let t = taken st.device st.item s c cols w.column w.across begins steps is.column gs2 us refl (IsPlaceCode num st.device.launch st.item ins n p (row u)) columns_fit n.columns_form columns_made k.0 after
-        (λ vs i b h. (then_rest h.0 after, loaded_on after st.device.launch st.item ins vs n.loads (at_index i (p.marks (row u))) n.inner b h.0 h.1, written_on after st.device.launch st.item ins num vs (push (loaded_marks n.loads (at_index i (p.marks (row u))) n.inner) (p.env (row u))) n.privates (n.inner + load_count n.loads) n.body (at_index (row u * cols + i) p.to) h.0 End h.2))
+        (λ vs i b h. (then_rest h.0 after, loaded_on after st.device.launch st.item ins vs n.loads (at_index i (p.marks (row u))) n.inner b h.0 h.1, written_on after st.device.launch st.item ins num vs (push (loaded_marks n.loads (at_index i (p.marks (row u))) n.inner) (p.env (row u))) n.privates (more n.inner (load_count n.loads)) n.body (at_index (row u * cols + i) p.to) h.0 End h.2))
         k.2 in
         let w1 = in_row cols (row u) p.to in
         let T = mapped (λ q. scalars_of num sources (push q (p.sems (row u))) n.body) (p.scalars (row u)) in
@@ -147,7 +149,7 @@ module _ (st : Setting) {A : Type 0} (num : A → ℕ) (ins : ℕ → Marks) (sr
         n.loads n.body n.types (p.env (row u)) (p.sems (row u)) n.element n.result (p.marks (row u)) w1 (p.scalars (row u)) z2 suits typed long (row_places u ul) (λ v vl. dues u v ul (subst (λ q. v < q) t.count_is vl))
         (λ v vl. t.each v (subst (λ q. v < q) t.count_is vl)) long2 (λ v vl. at_z.1 v (subst (λ q. v < q) t.count_is vl)) at_z.0 (all_hold_later st x z2 src ins sources up2 gs) in
         let r3 : Ran st z2 gs2 k.0 after last_count last_arrays (Scratch n.privates last_arrays) (PlaceRows u) (λ y. Unit {0}) = subst (λ q. Ran st z2 gs2 k.0 after last_count last_arrays (Scratch n.privates last_arrays) (Rows st column n.result w1 T q) (λ y. Unit {0})) t.count_is r2 in
-        let r4 : Ran st z gs2 k.0 after last_count last_arrays (Scratch n.privates last_arrays) (PlaceRows u) (λ y. Unit {0}) = ran_from st z2 gs2 k.0 after low n.privates last_count last_arrays last_count last_arrays (λ y. Unit {0}) after_row (omega arith) (omega arith) (omega arith) (λ m vars g. g) r3 in
+        let r4 : Ran st z gs2 k.0 after last_count last_arrays (Scratch n.privates last_arrays) (PlaceRows u) (λ y. Unit {0}) = ran_from st z2 gs2 k.0 after low n.privates last_count last_arrays last_count last_arrays (λ y. Unit {0}) after_row (omega arith) (at_most (omega arith) (omega arith)) (omega arith) (λ m vars g. g) r3 in
         ran_on st y gs2 before k.0 after low n.privates last_count last_arrays after_silence r r4
 
     -- the value at a place of a row
@@ -184,7 +186,7 @@ module _ (st : Setting) {A : Type 0} (num : A → ℕ) (ins : ℕ → Marks) (sr
             then_rest h.0 rest,
             loaded_on rest st.device.launch st.item ins us n.row_loads (at_index r p.row_marks) n.variables b h.0 h.1,
             turns_on st.device st.item n.columns_form s c us cols (IsPlaceCode num st.device.launch st.item ins n p r) rest
-                (λ vs i b2 h2. (then_rest h2.0 rest, loaded_on rest st.device.launch st.item ins vs n.loads (at_index i (p.marks r)) n.inner b2 h2.0 h2.1, written_on rest st.device.launch st.item ins num vs (push (loaded_marks n.loads (at_index i (p.marks r)) n.inner) (p.env r)) n.privates (n.inner + load_count n.loads) n.body (at_index (r * cols + i) p.to) h2.0 End h2.2))
+                (λ vs i b2 h2. (then_rest h2.0 rest, loaded_on rest st.device.launch st.item ins vs n.loads (at_index i (p.marks r)) n.inner b2 h2.0 h2.1, written_on rest st.device.launch st.item ins num vs (push (loaded_marks n.loads (at_index i (p.marks r)) n.inner) (p.env r)) n.privates (more n.inner (load_count n.loads)) n.body (at_index (r * cols + i) p.to) h2.0 End h2.2))
                 h.0 h.2,
           ))
           printed
@@ -202,11 +204,14 @@ module _ (st : Setting) {A : Type 0} (num : A → ℕ) (ins : ℕ → Marks) (sr
           let ul2 = subst (λ q. u < q) outer.count_is ul in
           one_row u ul2 m2 vars2 later (outer.form.frames u) outer.form.first outer.form.last (outer.each u ul2)
 
+      reach : AtMost x.count last_count
+      reach = let words = after_row.words in let fours = after_row.fours in at_most (omega arith) (omega arith)
+
       pub nest_run : Ran st x fs code rest last_count last_arrays (Scratch n.privates last_arrays) (PlacesOf st num sources n p w) (λ y. Unit {0})
       nest_run =
-          let r = turned_by st fs code rest outer.form outer.takes x (Scratch n.privates last_arrays) PlaceRows (λ t m vars. Unit {0}) own_below kept_below last_count last_arrays (omega arith) (omega arith) tt rows in
+          let r = turned_by st fs code rest outer.form outer.takes x (Scratch n.privates last_arrays) PlaceRows (λ t m vars. Unit {0}) own_below kept_below last_count last_arrays reach (omega arith) tt rows in
           let r2 = subst (λ q. Ran st x fs code rest last_count last_arrays (Scratch n.privates last_arrays) (DoneBy PlaceRows q) (λ y. Unit {0})) outer.count_is r in
-          ran_as st x fs code rest last_count last_arrays last_count last_arrays (λ y. Unit {0}) (omega arith) (omega arith) (λ m vars z. z) (λ b z. z) (λ b v z. inl (rows_places b v z)) (λ b v z. places_rows b v z) r2
+          ran_as st x fs code rest last_count last_arrays last_count last_arrays (λ y. Unit {0}) reach (omega arith) (λ m vars z. z) (λ b z. z) (λ b v z. inl (rows_places b v z)) (λ b v z. places_rows b v z) r2
 
 -- one map is a nest
 pub maps_are_nests : (A : Type 0) → MapsAreNests A

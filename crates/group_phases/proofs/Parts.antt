@@ -6,12 +6,13 @@ use Rattle.kernel_tree.specs.Code.{Array, Input, Output, Local, Private, Code}
 use Rattle.kernel_tree.specs.Item.{Frame}
 use Rattle.kernel_tree.specs.Device.{Device, Cell, Memory}
 use Rattle.kernel_tree.specs.Independent.{Owners}
+use Rattle.printed_form.specs.Counts.{Count}
 use Rattle.printed_form.specs.Runs.{Known, IsBetween, Scratch, Ran}
 use Rattle.group_phases.specs.Bodies.{is_private, IsShared, Part}
 
 -- where its targets are those of the phase, with the phase's values, and
 -- only private arrays are scratch
-pub part_of_run : (d : Device) (k locals : ℕ) (o : Owners) (m : Memory) (vars : Vars) (count arrays : ℕ) (fs : List Frame) (code rest : Code) (n a : ℕ) (S : Cell → Type 0) (T : Cell → ℕ → Type 0) (G : Known → Type 0) (target : Cell → Type 0) (value : Cell → ℕ) (Then : Vars → Type 0)
+pub part_of_run : (d : Device) (k locals : ℕ) (o : Owners) (m : Memory) (vars : Vars) (count : Count) (arrays : ℕ) (fs : List Frame) (code rest : Code) (n : Count) (a : ℕ) (S : Cell → Type 0) (T : Cell → ℕ → Type 0) (G : Known → Type 0) (target : Cell → Type 0) (value : Cell → ℕ) (Then : Vars → Type 0)
     → ((c : Cell) → target c → T c (value c)) → ((c : Cell) (v : ℕ) → T c v → target c) → ((c : Cell) → S c → IsShared c → ⊥)
     → (r : Ran (record { device = d; item = k; owners = o; locals = locals }) (record { memory = m; vars = vars; count = count; arrays = arrays }) fs code rest n a S T G) → Then r.after
     → Part d k o m target value fs code vars rest Then

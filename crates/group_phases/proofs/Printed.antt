@@ -1,6 +1,6 @@
 -- Phases that are printed terms do the work of their turns, and so every kernel that is printed for
 -- them keeps the headline.
-use Rattle.std.proofs.Common.{◌≡◌, ℕ, zero, suc, ◌+◌, ◌*◌, ◌%◌, ◌<◌, ◌≤◌, true, List, ◌∷◌, length, All, refl, sym, ap, ◌∙◌, subst, inl, ⊎_elim, arith}
+use Rattle.std.proofs.Common.{◌≡◌, ℕ, zero, suc, ◌+◌, ◌*◌, ◌%◌, ◌<◌, ◌≤◌, true, List, ◌∷◌, All, refl, sym, ap, ◌∙◌, subst, inl, ⊎_elim, arith}
 use Rattle.std.proofs.lemmas.Bool.{cases_lt}
 use Rattle.std.proofs.Math.Nat.{mod-lt, mul-le-mul_right}
 use Rattle.kernel_tree.specs.Formula.{Vars}
@@ -19,13 +19,14 @@ use Rattle.barrier_placement.specs.Needed.{Needed}
 use Rattle.barrier_placement.specs.Separates.{Separates}
 use Rattle.lift_ir.specs.Terms.{WorkGroup}
 use Rattle.printed_form.specs.Headline.{EveryRunKeeps}
-use Rattle.printed_form.specs.Marks.{Mark, Nowhere, Register, Spot, loaded_marks}
-use Rattle.printed_form.specs.Counts.{load_count, variable_count, private_count}
+use Rattle.printed_form.specs.Marks.{Mark, Nowhere, Register, Lane, Spot, loaded_marks}
+use Rattle.printed_form.specs.Counts.{more, no_variables, load_count, variable_count, private_count}
 use Rattle.printed_form.specs.Form.{IsTurnOf, IsLoaded}
-use Rattle.printed_form.specs.Runs.{Setting, Known, Kept, Scratch, spot_cell, HoldsAt, Holds, DueAt, nothing, no_target, known_after}
+use Rattle.printed_form.specs.Runs.{Fits, Setting, Known, Kept, Scratch, spot_cell, HoldsAt, Holds, DueAt, nothing, no_target, known_after}
 use Rattle.printed_form.specs.Whole.{IsGiven}
 use Rattle.printed_form.proofs.Cells.{loads_run}
 use Rattle.printed_form.proofs.Loops.{Rows, rest_is}
+use Rattle.printed_form.proofs.Runs.{at_most, fewer, fits_later}
 use Rattle.group_phases.specs.Bodies.{is_private, IsShared, IsReady, CanDo}
 use Rattle.group_phases.specs.Work.{IsKnown}
 use Rattle.group_phases.specs.Groups.{loop_turns}
@@ -35,6 +36,7 @@ use Rattle.group_phases.proofs.Bodies.{silent_then}
 use Rattle.group_phases.proofs.Phased.{group_kernel, phased_leaves, phased_serves}
 use Rattle.group_phases.specs.Phases.{PhaseList, turn_of, row_of, cell_of, phase_scalars, targets, HoldsTurn, knows, work_of, variables_at, IsPhaseMap, IsPhase, IsRead, IsFillable}
 use Rattle.group_phases.specs.Printed.{IsPhased}
+use Rattle.group_phases.proofs.Held.{held_here, held_kept, knows_held}
 use Rattle.group_phases.proofs.Keeps.{keeps_from_chunks}
 use Rattle.group_phases.proofs.LocalLoop.{form_run}
 use Rattle.group_phases.proofs.Parts.{part_of_run, scratch_private}
@@ -57,7 +59,7 @@ module _ {A : Type 0} (num : A → ℕ) (k : Kernel) (l : Launch) (c : Cells) (o
 
   -- and before the loads of the turn's scalars
   abbrev before_loads : Memory → Vars → Known
-  before_loads m vars = record { memory = m; vars = vars; count = 0; arrays = (p.phase 0).privates }
+  before_loads m vars = record { memory = m; vars = vars; count = no_variables; arrays = (p.phase 0).privates }
 
   abbrev known : (t q j : ℕ) → Cell → Type 0
   known = IsKnown l c (work_of num l p)
@@ -81,17 +83,19 @@ module _ {A : Type 0} (num : A → ℕ) (k : Kernel) (l : Launch) (c : Cells) (o
 
   holds_at : (t q j : ℕ) (o : Owners) (m : Memory) (vars : Vars) (x : Mark) (v : ℕ) → q < p.count → HoldsTurn num l p (turn_of l t j) vars → Ready t q j o m (mine t q j) → IsRead num k l c p t q j x v → HoldsAt (setting q j o) (before_rows q m vars) x v
   holds_at t q j o m vars (Spot b i) v ql held ready r = record { within = r.0; may = ready.may (cell_at l j b i) r.2; filled = r.1; holds = ready.holds (cell_at l j b i) r.2 ∙ r.3 }
-  holds_at t q j o m vars (Register x) v ql held ready r = let z = held x v r in let y = h.room.after_top q ql in (let lt = z.0 in omega arith, z.1)
+  holds_at t q j o m vars (Register x) v ql held ready r = let y = h.room.after_top q ql in knows_held (setting q j o) (before_rows q m vars) (load_count p.top.loads) (Register x) v (at_most y.words y.fours) tt (held (Register x) v r)
+  holds_at t q j o m vars (Lane x i) v ql held ready r = let y = h.room.after_top q ql in knows_held (setting q j o) (before_rows q m vars) (load_count p.top.loads) (Lane x i) v (at_most y.words y.fours) tt (held (Lane x i) v r)
   holds_at t q j o m vars Nowhere v ql held ready r = absurd r
 
   due_at : (t q j : ℕ) (o : Owners) (m : Memory) (x : Mark) → Ready t q j o m (mine t q j) → IsFillable k c p q x → mine t q j (cell_of l j x) → DueAt (setting q j o) ((p.phase q).privates + private_count (p.phase q).body) x
   due_at t q j o m (Spot b i) ready f x = (f.0, ready.mine (cell_at l j b i) x, f.1)
   due_at t q j o m (Register r) ready f x = absurd f
+  due_at t q j o m (Lane r i) ready f x = absurd f
   due_at t q j o m Nowhere ready f x = absurd f
 
   kept_on : (t q j : ℕ) (vars later : Vars) → q < p.count → Kept (p.phase q).variables vars later → knows num l p t (suc q) j vars → knows num l p t (suc q) j later
   kept_on t q j vars later ql kept u =
-      (subst (λ z. p.variables ≤ z) (sym kept.long) u.0, λ r v b. let x = u.1 r v b in let y = h.room.after_top q ql in (x.0, kept.same r (let lt = x.0 in omega arith) ∙ x.1))
+      (fits_later u.0 kept, λ r v b. let y = h.room.after_top q ql in held_kept (load_count p.top.loads) (p.phase q).variables vars later r v (at_most y.words y.fours) kept (u.1 r v b))
 
   -- an item's rows of a phase
   rows_do : (t q j : ℕ) → t < loop_turns l p.turns (group_of l j) → q < p.count → j < item_count l → (fs : List Frame) → loop_variables fs ≡ variables_at num l p (turn_of l t j) → (code rest : Code) → IsPhaseMap num l p q code rest → (vars : Vars) → knows num l p t (suc q) j vars → Does t q j (mine t q j) fs code vars rest
@@ -112,13 +116,13 @@ module _ {A : Type 0} (num : A → ℕ) (k : Kernel) (l : Launch) (c : Cells) (o
         choices = λ cs ds s r2 a b e. h.fills.choices i q j il ql cs ds (row_of l j z ∷ s) (row_of l j z ∷ r2) (below z lt, a) (below z lt, b) e;
         places = λ cs ds s r2 a b e. rest_is (row_of l j z) (row_of l j z) s r2 (h.fills.places i q j il ql cs ds (row_of l j z ∷ s) (row_of l j z ∷ r2) (below z lt, a) (below z lt, b) e);
       })
-      (omega arith)
+      (fewer enough fits.words fits.fours)
       (λ z lt cs s a. holds_at t q j o m vars (at.marks cs (row_of l j z ∷ s)) (at.scalars cs (row_of l j z ∷ s)) ql u.1 ready (h.reads.elements t q j z il ql jl lt cs s a))
       (λ v cs s a. holds_at t q j o m vars (at.env v cs s) (at.sems v cs s) ql u.1 ready (h.reads.envs t q j v il ql jl cs s a))
       (λ v cs s a. holds_at t q j o m vars (p.ins v cs s) (p.sources v cs s) ql u.1 ready (h.reads.inputs t q j v il ql jl cs s a))
       (flat_local l h.room.flat h.room.whole j) (h.room.rows q ql) f.form (h.room.forms q ql) (is j i jl il (own_turn t j jl))
       in
-      part_of_run d j f.locals o m vars f.variables f.privates fs code rest (f.variables + load_count f.loads + variable_count f.body) (f.privates + private_count f.body) (Scratch f.privates (f.privates + private_count f.body))
+      part_of_run d j f.locals o m vars f.variables f.privates fs code rest (more (more f.variables (load_count f.loads)) (variable_count f.body)) (f.privates + private_count f.body) (Scratch f.privates (f.privates + private_count f.body))
       (Rows st (row_of l j) f.result at.to (phase_scalars num l p i q) (turns_of f.len l.local.0 (j % l.local.0))) (λ z. Unit {0}) (mine t q j) (p.value (group_of l j) t) (knows num l p t (suc q) j)
       (λ b y. (y.1, y.2, (y.3, y.4, y.5, y.6, ap (p.value (group_of l j) t) y.6 ∙ h.fills.valued t q j il ql jl y.3 (row_of l j y.1 ∷ y.4) (below y.1 y.2, y.5))))
       (λ b v y. let z = y.2 in (il, y.0, y.1, z.0, z.1, z.2, z.3))
@@ -134,10 +138,11 @@ module _ {A : Type 0} (num : A → ℕ) (k : Kernel) (l : Launch) (c : Cells) (o
   given_at t j o m vars (Spot (Local b) i) v target ready g = absurd g
   given_at t j o m vars (Spot (Private b) i) v target ready g = absurd g
   given_at t j o m vars (Register x) v target ready g = absurd g
+  given_at t j o m vars (Lane x i) v target ready g = absurd g
   given_at t j o m vars Nowhere v target ready g = absurd g
 
   -- the loads of the turn's scalars
-  loads_do : (t j : ℕ) → t < loop_turns l p.turns (group_of l j) → j < item_count l → (fs : List Frame) → loop_variables fs ≡ variables_at num l p (turn_of l t j) → (code mid : Code) → ((item i : ℕ) → item < item_count l → i < p.turns → IsTurnOf l item WorkGroup i → IsLoaded l item p.ins (variables_at num l p i) p.top.loads (p.top.marks i) 0 code mid) → (vars : Vars) → p.variables ≤ length vars.words
+  loads_do : (t j : ℕ) → t < loop_turns l p.turns (group_of l j) → j < item_count l → (fs : List Frame) → loop_variables fs ≡ variables_at num l p (turn_of l t j) → (code mid : Code) → ((item i : ℕ) → item < item_count l → i < p.turns → IsTurnOf l item WorkGroup i → IsLoaded l item p.ins (variables_at num l p i) p.top.loads (p.top.marks i) no_variables code mid) → (vars : Vars) → Fits p.variables vars
       → Does t 0 j (λ b. ⊥) fs code vars mid
   loads_do t j tl jl fs ts code mid is vars long o m ready =
       let i = turn_of l t j in
@@ -146,14 +151,14 @@ module _ {A : Type 0} (num : A → ℕ) (k : Kernel) (l : Launch) (c : Cells) (o
       let x = before_loads m vars in
       let room = h.room.fits 0 h.room.some in
       let base = h.room.after_top 0 h.room.some in
-      let r = loads_run st (variables_at num l p i) fs ts p.ins p.top.loads p.top.type (p.top.marks i) (p.top.scalars i) x code mid h.types.top_loads (is j i jl il (own_turn t j jl)) (omega arith)
+      let r = loads_run st (variables_at num l p i) fs ts p.ins p.top.loads p.top.type (p.top.marks i) (p.top.scalars i) x code mid h.types.top_loads (is j i jl il (own_turn t j jl)) (fewer long (let a = room.words in let b = base.words in omega arith) (let a = room.fours in let b = base.fours in omega arith))
       (λ cs s z. given_at t j o m vars (p.top.marks i cs s) (p.top.scalars i cs s) (λ b. ⊥) ready (h.reads.top i il cs s z)) in
-      part_of_run d j (p.phase 0).locals o m vars 0 (p.phase 0).privates fs code mid (0 + load_count p.top.loads) (p.phase 0).privates nothing no_target (λ y. Holds st y p.top.type (loaded_marks p.top.loads (p.top.marks i) 0) (p.top.scalars i)) (λ b. ⊥) (p.value (group_of l j) t) (knows num l p t 1 j)
+      part_of_run d j (p.phase 0).locals o m vars no_variables (p.phase 0).privates fs code mid (more no_variables (load_count p.top.loads)) (p.phase 0).privates nothing no_target (λ y. Holds st y p.top.type (loaded_marks p.top.loads (p.top.marks i) no_variables) (p.top.scalars i)) (λ b. ⊥) (p.value (group_of l j) t) (knows num l p t 1 j)
       (λ b z. absurd z) (λ b v z. z) (λ b z s. z) r (
-        subst (λ z. p.variables ≤ z) (sym r.later.kept.long) long,
+        fits_later long r.later.kept,
         λ v w b.
-            let z = subst (λ a. HoldsAt st (known_after x r.deeds r.after (0 + load_count p.top.loads) (p.phase 0).privates) a (p.top.scalars i b.0 b.1)) b.3 (r.good b.0 b.1 b.2) in
-            (let lt = z.0 in omega arith, z.1 ∙ b.4),
+            let y = known_after x r.deeds r.after (more no_variables (load_count p.top.loads)) (p.phase 0).privates in
+            held_here st y (load_count p.top.loads) v w (at_most (omega arith) (omega arith)) (subst (λ z. HoldsAt st y v z) b.4 (subst (λ a. HoldsAt st y a (p.top.scalars i b.0 b.1)) b.3 (r.good b.0 b.1 b.2))),
       )
 
   known_shared : (t q j : ℕ) (b : Cell) → known t q j b → IsShared b
@@ -168,14 +173,14 @@ module _ {A : Type 0} (num : A → ℕ) (k : Kernel) (l : Launch) (c : Cells) (o
       (loads_do t j tl jl fs ts code is.0 is.1 vars v) (λ vs u. rows_do t 0 j tl ql jl fs ts is.0 rest is.2 vs u)
   does t (suc q) j tl ql jl fs ts code rest is vars v = rows_do t (suc q) j tl ql jl fs ts code rest is vars v
 
-  long_of : (t q j : ℕ) (vars : Vars) → knows num l p t q j vars → p.variables ≤ length vars.words
+  long_of : (t q j : ℕ) (vars : Vars) → knows num l p t q j vars → Fits p.variables vars
   long_of t zero j vars v = v
   long_of t (suc q) j vars v = v.0
 
   pub phased : PhasedMap k l c owner wanted (loop_turns l p.turns) (λ t j. variables_at num l p (turn_of l t j)) p.count (IsPhase num l p) (work_of num l p)
   phased = record {
     whole = h.room.whole;
-    begins = λ j vars jl e. let r = h.room.variables in omega arith;
+    begins = λ j vars jl e. let r = h.room.variables in fewer e r.words r.fours;
     again = λ t j vars jl v. long_of t p.count j vars v;
     does = does;
     due = h.writes.due;

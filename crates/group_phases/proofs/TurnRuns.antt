@@ -10,9 +10,10 @@ use Rattle.kernel_tree.specs.Independent.{Owners, IsAllowed, Agrees, write_count
 use Rattle.kernel_tree.proofs.Deeds.{goes_on}
 use Rattle.kernel_tree.proofs.Independent.{written-append}
 use Rattle.kernel_tree.proofs.Turns.{every-append}
+use Rattle.printed_form.specs.Counts.{Count, AtMost}
 use Rattle.printed_form.specs.Runs.{Setting, Known, Later, Wrote, known_after, Ran, Apart}
 use Rattle.printed_form.proofs.Loops.{at, later_from}
-use Rattle.printed_form.proofs.Runs.{later_same, later_on, silent, wrote_on, agrees_on, before_silence}
+use Rattle.printed_form.proofs.Runs.{as_many, later_same, later_on, silent, wrote_on, agrees_on, before_silence}
 use Rattle.group_phases.specs.TurnForms.{moves, Form, place, TakesTurns}
 use Rattle.group_phases.specs.Written.{DoneBy}
 use Rattle.group_phases.proofs.TurnForms.{written-moves, place_in, place_past}
@@ -37,10 +38,10 @@ module _ (st : Setting) (fs : List Frame) (code rest : Code) (f : Form) (takes :
     inv : Inv t (written deeds x.memory) vars
 
   -- a turn, from what is known at its beginning
-  abbrev pub EachTurnRuns : (n a : ℕ) → Type 0
+  abbrev pub EachTurnRuns : (n : Count) → (a : ℕ) → Type 0
   EachTurnRuns n a = (t : ℕ) → t < f.count → (m : Memory) (vars : Vars) → Later st x (at x m vars) → Inv t m vars → Ran st (at x m vars) (f.frames t) f.first f.last n a S (T1 t) (λ y. Inv (suc t) y.memory y.vars)
 
-  module _ (n a : ℕ) (begin : Inv 0 x.memory x.vars) (turn : EachTurnRuns n a) where
+  module _ (n : Count) (a : ℕ) (begin : Inv 0 x.memory x.vars) (turn : EachTurnRuns n a) where
     reach : (t : ℕ) → t ≤ f.count → Reached t
     reach zero le =
         let e = takes.enters x.vars in
@@ -70,21 +71,21 @@ module _ (st : Setting) (fs : List Frame) (code rest : Code) (f : Form) (takes :
               let ag2 = agrees_on st.owners st.item x.memory k h.deeds ag in
               goes_on st.device st.item _ _ _ k h.deeds more (subst (λ z. Goes st.device st.item (item code fs x.vars) k h.deeds z) (place_in st.device st.item fs rest f t h.vars lt) (h.goes k ag))
               (goes_on st.device st.item _ _ _ _ u.deeds (moves e.0) (u.goes (written h.deeds k) ag2) (e.1 (written u.deeds (written h.deeds k))));
-          later = subst (λ z. Later st x (at x z u.after)) is (later_on st x y (at x (written u.deeds m) u.after) h.later (later_from st y (known_after y u.deeds u.after n a) x.count x.arrays x.count x.arrays (omega arith) (omega arith) (omega arith) (omega arith) u.later));
+          later = subst (λ z. Later st x (at x z u.after)) is (later_on st x y (at x (written u.deeds m) u.after) h.later (later_from st y (known_after y u.deeds u.after n a) x.count x.arrays x.count x.arrays (as_many x.count) (omega arith) (as_many x.count) (omega arith) u.later));
           allowed = every-append (IsAllowed st.owners st.item) h.deeds more h.allowed (every-append (IsAllowed st.owners st.item) u.deeds (moves e.0) u.allowed (moves_allowed st.owners st.item e.0));
           wrote = wrote_on x.memory h.deeds more (apart t lt) h.wrote (wrote_on m u.deeds (moves e.0) before_silence u.wrote (silent (written u.deeds m) (moves e.0) (λ c. moves_quiet c e.0)));
           inv = subst (λ z. Inv (suc t) z u.after) is u.good;
         }
 
     -- all turns, from the code to the rest
-    pub turned : (n2 a2 : ℕ) → x.count ≤ n2 → x.arrays ≤ a2 → Ran st x fs code rest n2 a2 S (T f.count) (λ y. Inv f.count y.memory y.vars)
+    pub turned : (n2 : Count) (a2 : ℕ) → AtMost x.count n2 → x.arrays ≤ a2 → Ran st x fs code rest n2 a2 S (T f.count) (λ y. Inv f.count y.memory y.vars)
     turned n2 a2 le le2 =
         let h = reach f.count (omega arith) in
         record {
           after = h.vars;
           deeds = h.deeds;
           goes = λ m ag. subst (λ z. Goes st.device st.item (item code fs x.vars) m h.deeds z) (place_past st.device st.item fs rest f f.count h.vars (omega arith)) (h.goes m ag);
-          later = later_from st x (at x (written h.deeds x.memory) h.vars) x.count x.arrays n2 a2 (omega arith) (omega arith) le le2 h.later;
+          later = later_from st x (at x (written h.deeds x.memory) h.vars) x.count x.arrays n2 a2 (as_many x.count) (omega arith) le le2 h.later;
           allowed = h.allowed;
           wrote = h.wrote;
           good = h.inv;
@@ -109,5 +110,5 @@ module _ (st : Setting) (fs : List Frame) (code rest : Code) (f : Form) (takes :
   }
 
   -- so it is with what each turn writes, also where a turn is itself a form of turns
-  pub turned_by : (n a : ℕ) → x.count ≤ n → x.arrays ≤ a → Inv 0 x.memory x.vars → EachTurnRuns st fs code rest f takes x S (DoneBy T) T Inv no_turns turns_apart n a → Ran st x fs code rest n a S (DoneBy T f.count) (λ y. Inv f.count y.memory y.vars)
+  pub turned_by : (n : Count) (a : ℕ) → AtMost x.count n → x.arrays ≤ a → Inv 0 x.memory x.vars → EachTurnRuns st fs code rest f takes x S (DoneBy T) T Inv no_turns turns_apart n a → Ran st x fs code rest n a S (DoneBy T f.count) (λ y. Inv f.count y.memory y.vars)
   turned_by n a le le2 begin turn = turned st fs code rest f takes x S (DoneBy T) T Inv no_turns turns_apart n a begin turn n a le le2

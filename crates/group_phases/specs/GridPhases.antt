@@ -1,36 +1,36 @@
--- A map over the work-groups of a grid of groups, whose phases are maps over the items of a group in
--- two dimensions: each a nest of two maps. A map of one dimension is such a nest of one row.
-use Rattle.std.specs.Prelude.{◌≡◌, ℕ, zero, suc, ◌+◌, ◌/◌, ◌%◌, ◌<◌, ◌≤◌, ◌⊎◌, Bool, List, [], ◌∷◌, length}
+-- A map over the work-groups of a grid of groups, whose phases are maps over the items of a group
+-- in two dimensions: each a nest of two maps. A map of one dimension is such a nest of one row.
+use Rattle.std.specs.Prelude.{◌≡◌, ℕ, zero, suc, ◌+◌, ◌/◌, ◌%◌, ◌<◌, ◌⊎◌, Bool, List, [], ◌∷◌}
 use Rattle.kernel_tree.specs.declared.tree.Dimension.TheVariants.{X, Y}
-use Rattle.kernel_tree.specs.Formula.{Vars, word}
+use Rattle.kernel_tree.specs.Formula.{Vars}
 use Rattle.kernel_tree.specs.Code.{FromGroupId, FromLocalId, ByGroupCount, ByLocalSize, Code, Kernel}
 use Rattle.kernel_tree.specs.Launch.{Launch, Cells, item_count, group_of}
 use Rattle.kernel_tree.specs.Device.{Cell, cell_at, length_in}
 use Rattle.barrier_placement.specs.declared.touches.Touch.{Touch}
 use Rattle.lift_ir.specs.Types.{Ty, IsPosition}
 use Rattle.lift_ir.specs.Scalars.{Scalars}
-use Rattle.printed_form.specs.Marks.{Mark, Nowhere, Register, Spot, Marks, loaded_marks}
-use Rattle.printed_form.specs.Counts.{load_count, private_count}
+use Rattle.printed_form.specs.Marks.{Mark, Nowhere, Register, Lane, Spot, Marks, loaded_marks}
+use Rattle.printed_form.specs.Counts.{Count, more, no_variables, load_count, private_count}
 use Rattle.printed_form.specs.Form.{IsTurn, IsLoaded}
 use Rattle.printed_form.specs.MapForms.{MapForm, variables_in}
-use Rattle.printed_form.specs.Runs.{IsFilled, IsOpen}
+use Rattle.printed_form.specs.Runs.{Fits, IsFilled, IsOpen}
 use Rattle.group_phases.specs.Grids.{Grid, places, places_taken, place_taken, row_taken, group_walk, local_walk}
 use Rattle.group_phases.specs.NestRows.{Nest, NestPlace, nest_scalars, IsNestCode}
-use Rattle.group_phases.specs.Phases.{TurnElement, cell_of}
+use Rattle.group_phases.specs.Phases.{TurnElement, HeldBelow, cell_of}
 use Rattle.group_phases.specs.Work.{Work, IsKnown}
 
--- A map over a grid of groups, of so many phases; its two maps in their forms, and `once` where each
--- group has one turn at most. A row's scalars are loaded where the row begins, a turn's scalars
--- where the turn begins. Turns are numbered row by row. Each phase is a nest, with the local arrays
--- that are filled before it; with the phases' uses of local arrays, and what each cell is to hold in
--- each turn of a group
+-- A map over a grid of groups, of so many phases; its two maps in their forms, and `once` where
+-- each group has one turn at most. A row's scalars are loaded where the row begins, a turn's
+-- scalars where the turn begins. Turns are numbered row by row. Each phase is a nest, with the
+-- local arrays that are filled before it; with the phases' uses of local arrays, and what each cell
+-- is to hold in each turn of a group
 pub record GridList (A : Type 0) : Type 0 where
   pub grid : Grid
   pub rows_form : MapForm
   pub columns_form : MapForm
   pub once : Bool
   pub count : ℕ
-  pub variables : ℕ
+  pub variables : Count
   pub ins : ℕ → Marks
   pub src : ℕ → Ty
   pub sources : ℕ → Scalars
@@ -83,39 +83,38 @@ module _ {A : Type 0} (num : A → ℕ) (l : Launch) (p : GridList A) where
       × (r : List ℕ) × IsPosition (p.phase q).result cs r
       × (b ≡ cell_of l j ((p.place (turn_at l p t j) q).to cs (place_at l p q j u ∷ r)))
 
-  -- one of a row's scalars is in this variable, and is v
-  abbrev pub IsRowScalar : (row var v : ℕ) → Type 0
-  IsRowScalar r var v =
+  -- this stands for one of a row's scalars, which is v
+  abbrev pub IsRowScalar : (row : ℕ) → Mark → (v : ℕ) → Type 0
+  IsRowScalar r m v =
       (cs : List Bool) × (q : List ℕ) × IsPosition p.row_top.type cs q
-      × (loaded_marks p.row_top.loads (p.row_top.marks r) 0 cs q ≡ Register var)
+      × (loaded_marks p.row_top.loads (p.row_top.marks r) no_variables cs q ≡ m)
       × (p.row_top.scalars r cs q ≡ v)
 
-  -- one of a turn's scalars is in this variable, and is v
-  abbrev pub IsTurnScalar : (i var v : ℕ) → Type 0
-  IsTurnScalar i var v =
+  -- this stands for one of a turn's scalars, which is v
+  abbrev pub IsTurnScalar : (i : ℕ) → Mark → (v : ℕ) → Type 0
+  IsTurnScalar i m v =
       (cs : List Bool) × (q : List ℕ) × IsPosition p.top.type cs q
-      × (loaded_marks p.top.loads (p.top.marks i) (load_count p.row_top.loads) cs q ≡ Register var)
+      × (loaded_marks p.top.loads (p.top.marks i) (load_count p.row_top.loads) cs q ≡ m)
       × (p.top.scalars i cs q ≡ v)
 
   -- how many variables both have
-  abbrev pub top_count : ℕ
-  top_count = load_count p.row_top.loads + load_count p.top.loads
+  abbrev pub top_count : Count
+  top_count = more (load_count p.row_top.loads) (load_count p.top.loads)
 
   -- variables hold the row's scalars
   abbrev pub HoldsRow : (row : ℕ) → Vars → Type 0
   HoldsRow r vars =
-      (var v : ℕ) → IsRowScalar r var v → (var < load_count p.row_top.loads) × (word vars var ≡ v)
+      (m : Mark) (v : ℕ) → IsRowScalar r m v → HeldBelow (load_count p.row_top.loads) vars m v
 
   -- and the turn's
   abbrev pub HoldsTurn : (i : ℕ) → Vars → Type 0
-  HoldsTurn i vars =
-      (var v : ℕ) → IsTurnScalar i var v → (var < top_count) × (word vars var ≡ v)
+  HoldsTurn i vars = (m : Mark) (v : ℕ) → IsTurnScalar i m v → HeldBelow top_count vars m v
 
   -- before each phase there are variables enough, that hold the row's scalars, and from the second
   -- on the turn's
   abbrev pub knows : (t q j : ℕ) → Vars → Type 0
   knows t q j vars =
-      (p.variables ≤ length vars.words) × HoldsRow (turn_row l p t j) vars
+      Fits p.variables vars × HoldsRow (turn_row l p t j) vars
       × (0 < q → HoldsTurn (turn_at l p t j) vars)
 
   -- the work of the phases, whatever code does it
@@ -165,39 +164,48 @@ module _ {A : Type 0} (num : A → ℕ) (l : Launch) (p : GridList A) where
   abbrev pub AreRowLoads : Code → Code → Type 0
   AreRowLoads code rest =
       (item r : ℕ) → item < item_count l → r < p.grid.rows → IsGroupRow l item r
-      → IsLoaded l item p.ins (row_variables r) p.row_top.loads (p.row_top.marks r) 0 code rest
+      → IsLoaded l item p.ins (row_variables r) p.row_top.loads (p.row_top.marks r) no_variables
+      code rest
+
+-- this stands for a scalar that the j-th item holds in its t-th turn: of the row, of the turn, or
+-- such
+abbrev pub IsHeldScalar : {A : Type 0}
+    → (num : A → ℕ) (l : Launch) (p : GridList A) (t j : ℕ) → (Held : Mark → ℕ → Type 0) → Mark
+    → (v : ℕ) → Type 0
+IsHeldScalar num l p t j Held m v =
+    IsRowScalar num l p (turn_row l p t j) m v ⊎ IsTurnScalar num l p (turn_at l p t j) m v
+    ⊎ Held m v
 
 -- a scalar that the j-th item may read in phase q of its t-th turn, in this row of the phase: of a
 -- known cell, or held in a variable, of the turn, of its row, or of the row of the phase
 abbrev pub IsRead : {A : Type 0}
     → (num : A → ℕ) (k : Kernel) (l : Launch) (c : Cells) (p : GridList A) (t q j : ℕ)
-    → (Held : ℕ → ℕ → Type 0) → Mark → ℕ → Type 0
+    → (Held : Mark → ℕ → Type 0) → Mark → ℕ → Type 0
 IsRead num k l c p t q j Held (Spot b i) v =
     (i < length_in k c b) × IsFilled (p.locals q) (p.phase q).privates b
     × IsKnown l c (work_of num l p) t q j (cell_at l j b i)
     × (p.value (group_of l j) t (cell_at l j b i) ≡ v)
-IsRead num k l c p t q j Held (Register r) v =
-    IsRowScalar num l p (turn_row l p t j) r v ⊎ IsTurnScalar num l p (turn_at l p t j) r v
-    ⊎ Held r v
+IsRead num k l c p t q j Held (Register r) v = IsHeldScalar num l p t j Held (Register r) v
+IsRead num k l c p t q j Held (Lane r i) v = IsHeldScalar num l p t j Held (Lane r i) v
 IsRead num k l c p t q j Held Nowhere v = ⊥
 
 -- what stands for a value of a type can be read there
 abbrev pub AreRead : {A : Type 0}
     → (num : A → ℕ) (k : Kernel) (l : Launch) (c : Cells) (p : GridList A) (t q j : ℕ)
-    → (Held : ℕ → ℕ → Type 0) → Ty → Marks → Scalars → Type 0
+    → (Held : Mark → ℕ → Type 0) → Ty → Marks → Scalars → Type 0
 AreRead num k l c p t q j Held ty e s =
     (cs : List Bool) (r : List ℕ) → IsPosition ty cs r
     → IsRead num k l c p t q j Held (e cs r) (s cs r)
 
 -- nothing else is held
-abbrev pub NothingHeld : ℕ → ℕ → Type 0
-NothingHeld r v = ⊥
+abbrev pub NothingHeld : Mark → ℕ → Type 0
+NothingHeld m v = ⊥
 
--- a scalar of this row of the phase is held in this variable
-abbrev pub IsHeldInRow : {A : Type 0} → Nest A → NestPlace → (row var v : ℕ) → Type 0
-IsHeldInRow n p r var v =
+-- this stands for a scalar of this row of the phase, which is v
+abbrev pub IsHeldInRow : {A : Type 0} → Nest A → NestPlace → (row : ℕ) → Mark → (v : ℕ) → Type 0
+IsHeldInRow n p r m v =
     (cs : List Bool) × (q : List ℕ) × IsPosition n.row_element cs q
-    × (loaded_marks n.row_loads (λ cs q. p.row_marks cs (r ∷ q)) n.variables cs q ≡ Register var)
+    × (loaded_marks n.row_loads (λ cs q. p.row_marks cs (r ∷ q)) n.variables cs q ≡ m)
     × (p.row_scalars cs (r ∷ q) ≡ v)
 
 -- a cell of an array that is still to be filled in phase q

@@ -1,6 +1,6 @@
 -- What phases of two dimensions need so that every kernel that is printed for them keeps the
 -- headline.
-use Rattle.std.specs.Prelude.{◌≡◌, ℕ, ◌+◌, ◌*◌, ◌<◌, ◌≤◌, ◌^◌, ◌⊎◌, Bool, true, List, All, Some, length, map, slice_index}
+use Rattle.std.specs.Prelude.{◌≡◌, ℕ, ◌+◌, ◌*◌, ◌/◌, ◌<◌, ◌≤◌, ◌^◌, ◌⊎◌, Bool, true, List, All, Some, length, map, slice_index}
 use Rattle.kernel_tree.specs.declared.tree.Dimension.TheVariants.{X, Y}
 use Rattle.kernel_tree.specs.Formula.{Formula, bound_value}
 use Rattle.kernel_tree.specs.Code.{FromGroupId, ByGroupCount, Code, Kernel}
@@ -15,13 +15,13 @@ use Rattle.lift_ir.specs.Types.{ArrayOf, IsPosition}
 use Rattle.lift_ir.specs.Terms.{LoadsScalars, push, HasType}
 use Rattle.lift_ir.specs.Scalars.{at_index}
 use Rattle.printed_form.specs.Headline.{EveryRunKeeps}
-use Rattle.printed_form.specs.Counts.{load_count, variable_count}
+use Rattle.printed_form.specs.Counts.{more, AtMost, load_count, variable_count}
 use Rattle.printed_form.specs.Form.{Declares}
 use Rattle.printed_form.specs.Whole.{IsGiven}
 use Rattle.group_phases.specs.Cells.{input_cell, output_cell, IsOwnOutput}
-use Rattle.group_phases.specs.GridPhases.{GridList, group_turns, turn_at, grid_scalars, targets, work_of, IsPhase, AreRowLoads, AreRead, NothingHeld, IsHeldInRow, IsFillable}
+use Rattle.group_phases.specs.GridPhases.{GridList, group_turns, turn_at, grid_scalars, targets, IsRowScalar, work_of, IsPhase, AreRowLoads, AreRead, NothingHeld, IsHeldInRow, IsFillable}
 use Rattle.group_phases.specs.Grids.{places, rows_taken, columns_taken, local_walk}
-use Rattle.group_phases.specs.Groups.{GroupOutputs}
+use Rattle.group_phases.specs.Groups.{GroupOutputs, declared}
 use Rattle.group_phases.specs.Outcome.{BarriersServeAll}
 use Rattle.group_phases.specs.Phased.{ArePhases}
 use Rattle.group_phases.specs.Phases.{cell_of}
@@ -65,14 +65,16 @@ module _ {A : Type 0} (p : GridList A) where
         → MakesTurnsBy (p.phase q).rows_form (p.phase q).grid.rows l.local.1
     pub phase_columns_made : (q : ℕ) → q < p.count
         → MakesTurnsBy (p.phase q).columns_form (p.phase q).grid.columns l.local.0
-    pub variables : p.variables ≤ k.variables
+    pub variables : AtMost p.variables (declared k)
     pub after_row : (q : ℕ) → q < p.count
-        → (p.phase q).variables + load_count (p.phase q).row_loads ≤ (p.phase q).inner
+        → AtMost (more (p.phase q).variables (load_count (p.phase q).row_loads)) (p.phase q).inner
     pub fits : (q : ℕ) → q < p.count
-        → (p.phase q).inner + load_count (p.phase q).loads + variable_count (p.phase q).body
-        ≤ p.variables
+        → AtMost
+        (more (more (p.phase q).inner (load_count (p.phase q).loads))
+        (variable_count (p.phase q).body)) p.variables
     pub after_top : (q : ℕ) → q < p.count
-        → load_count p.row_top.loads + load_count p.top.loads ≤ (p.phase q).variables
+        → AtMost (more (load_count p.row_top.loads) (load_count p.top.loads))
+        (p.phase q).variables
 
   module _ (num : A → ℕ) (k : Kernel) (l : Launch) (c : Cells) where
     -- each phase is typed, loads scalars alone, and its private arrays are declared
@@ -89,13 +91,15 @@ module _ {A : Type 0} (p : GridList A) where
           → Declares (length_in k c) (p.phase q).privates (p.phase q).body
 
     -- what a phase reads is known by then, and holds its scalars; of its argument
-    -- an item reads its own places alone
+    -- an item reads its own places alone. What a turn binds is an input's, or its row's
     pub record ReadsKnown : Type 0 where
       pub given : (g t a i : ℕ) → p.value g t (input_cell a i) ≡ slice_index (row c.ins a) i
       pub row_top : (r : ℕ) → r < p.grid.rows → (cs : List Bool) (q : List ℕ)
           → IsPosition p.row_top.type cs q → IsGiven c (p.row_top.marks r cs q) (p.row_top.scalars r cs q)
       pub top : (i : ℕ) → i < places p.grid → (cs : List Bool) (r : List ℕ)
-          → IsPosition p.top.type cs r → IsGiven c (p.top.marks i cs r) (p.top.scalars i cs r)
+          → IsPosition p.top.type cs r
+          → IsGiven c (p.top.marks i cs r) (p.top.scalars i cs r)
+          ⊎ IsRowScalar num l p (i / p.grid.columns) (p.top.marks i cs r) (p.top.scalars i cs r)
       pub inputs : (t q j v : ℕ) → t < group_turns l p (group_of l j) → q < p.count → j < item_count l
           → AreRead num k l c p t q j NothingHeld (p.src v) (p.ins v) (p.sources v)
       pub rows : (t q j u : ℕ) → t < group_turns l p (group_of l j) → q < p.count → j < item_count l

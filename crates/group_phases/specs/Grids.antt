@@ -1,6 +1,6 @@
--- Two strided walks, the one along a row and the other from row to row, as the items of a launch and
--- the items of a group take the places of a grid. A walk in one dimension is one in a grid of one
--- row, from row 0 by 1.
+-- Two strided walks, the one along a row and the other from row to row, as the items of a launch
+-- and the items of a group take the places of a grid. A walk in one dimension is one in a grid of
+-- one row, from row 0 by 1.
 use Rattle.std.specs.Prelude.{◌≡◌, ℕ, ◌+◌, ◌*◌, ◌/◌, ◌%◌, ◌<◌}
 use Rattle.kernel_tree.specs.Launch.{Launch, ids_of, groups_across, groups_down}
 use Rattle.kernel_tree.proofs.Stride.{turns_of}

@@ -8,6 +8,8 @@ use Rattle.kernel_tree.specs.Item.{Item, item, Ends, next, Frame}
 use Rattle.kernel_tree.specs.Device.{Cell, device_of, row, still}
 use Rattle.kernel_tree.proofs.Stride.{turns_of}
 use Rattle.barrier_placement.specs.Fencing.{Fencing}
+use Rattle.printed_form.specs.Counts.{Count}
+use Rattle.printed_form.specs.Runs.{Fits}
 use Rattle.group_phases.specs.Bodies.{CanDo, CanHop}
 use Rattle.group_phases.specs.Cells.{output_cell, IsOwnOutput}
 use Rattle.group_phases.specs.Epochs.{IsPast, KeepsApart}
@@ -45,6 +47,10 @@ pub record GroupPhases (kernel : Kernel) (l : Launch) (c : Cells) (owner : (arra
       → j < item_count l → w.targets t q k (output_cell a i) → w.targets u r j (output_cell a i)
       → (t ≡ u) × (q ≡ r)
 
+-- the private variables of a kernel
+abbrev pub declared : Kernel → Count
+declared k = record { words = k.variables; fours = k.vectors }
+
 -- each word that is wanted is written by its cell's owner in one of n phases of some turn
 pub record GroupOutputs (l : Launch) (owner : (array index : ℕ) → ℕ) (wanted : List (List ℕ))
     (n : ℕ) (turns : ℕ → ℕ) (w : Work) : Type 0 where
@@ -64,7 +70,7 @@ pub record IsBefore (l : Launch) (b : Body) (w : Work) (t k : ℕ) (y : Item) : 
 -- writes no cell that others may reach
 pub record GroupTurns (kernel : Kernel) (l : Launch) (c : Cells) (b : Body)
     (w : Work) : Type 0 where
-  pub begins : (k : ℕ) (vars : Vars) → k < item_count l → length vars.words ≡ kernel.variables
+  pub begins : (k : ℕ) (vars : Vars) → k < item_count l → Fits (declared kernel) vars
       → CanHop (device_of kernel l c) k c (item kernel.code [] vars) (IsBefore l b w 0 k)
   pub again : (t k : ℕ) (vars : Vars) → t < b.turns (group_of l k) → k < item_count l
       → w.knows t b.count k vars
@@ -81,7 +87,7 @@ pub record GroupForm (kernel : Kernel) (l : Launch) (c : Cells) (form : ℕ → 
   pub first : (k : ℕ) → (form k).first ≡ b.before 0
   pub last : (k : ℕ) → (form k).last ≡ b.code b.count
   pub frames : (t k : ℕ) → (form k).frames t ≡ b.frames t k
-  pub begins : (k : ℕ) (vars : Vars) → k < item_count l → length vars.words ≡ kernel.variables
+  pub begins : (k : ℕ) (vars : Vars) → k < item_count l → Fits (declared kernel) vars
       → w.knows 0 0 k vars
   pub again : (t k : ℕ) (vars : Vars) → k < item_count l → w.knows t b.count k vars
       → w.knows (suc t) 0 k vars

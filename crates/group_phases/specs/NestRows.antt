@@ -6,7 +6,7 @@ use Rattle.kernel_tree.specs.Launch.{Launch}
 use Rattle.lift_ir.specs.Types.{Ty}
 use Rattle.lift_ir.specs.Terms.{LoadSet, Skip, Term, push}
 use Rattle.lift_ir.specs.Scalars.{Scalars, at_index, scalars_of}
-use Rattle.printed_form.specs.Counts.{load_count}
+use Rattle.printed_form.specs.Counts.{Count, more, load_count}
 use Rattle.printed_form.specs.Form.{IsLoaded, IsWritten}
 use Rattle.printed_form.specs.MapForms.{MapForm, Alone, TurnCode}
 use Rattle.printed_form.specs.Marks.{Marks, loaded_marks}
@@ -14,9 +14,9 @@ use Rattle.printed_form.specs.Runs.{Setting, Targets}
 use Rattle.group_phases.specs.Grids.{Grid, Walk, one_row, places_taken, place_taken}
 use Rattle.group_phases.specs.Strides.{AreTurnsFrom}
 
--- what there is of a nest of two maps but for its launch: their forms, how many rows and places, the
--- scalars that are loaded of a row and of a place, and the body. Variables from `variables` on are
--- for a row's scalars, from `inner` on for a place's
+-- what there is of a nest of two maps but for its launch: their forms, how many rows and places,
+-- the scalars that are loaded of a row and of a place, and the body. Variables from `variables` on
+-- are for a row's scalars, from `inner` on for a place's
 pub record Nest (A : Type 0) : Type 0 where
   pub grid : Grid
   pub rows_form : MapForm
@@ -28,8 +28,8 @@ pub record Nest (A : Type 0) : Type 0 where
   pub element : Ty
   pub result : Ty
   pub types : ℕ → Ty  -- of the binders that the body names
-  pub variables : ℕ
-  pub inner : ℕ
+  pub variables : Count
+  pub inner : Count
   pub privates : ℕ
 
 -- what stands for a row's scalars, for binders and places in that row, and where the value of each
@@ -61,7 +61,8 @@ module _ {A : Type 0} (num : A → ℕ) (l : Launch) (item : ℕ) (ins : ℕ →
       (inner : Code) × IsLoaded l item ins us n.loads (at_index i (p.marks r)) n.inner before inner
       × IsWritten l item ins num us
       (push (loaded_marks n.loads (at_index i (p.marks r)) n.inner) (p.env r)) n.privates
-      (n.inner + load_count n.loads) n.body (at_index (r * n.grid.columns + i) p.to) inner after
+      (more n.inner (load_count n.loads)) n.body (at_index (r * n.grid.columns + i) p.to) inner
+      after
 
   -- the code of a row: its loads, and then its places
   abbrev pub IsRowCode : Start → Stride → TurnCode

@@ -1,6 +1,6 @@
 -- The body of a map over work-groups as it is printed: phases one after
 -- another, whatever stands between them.
-use Rattle.std.specs.Prelude.{◌≡◌, ℕ, ◌<◌, Bool, zero, suc, List, [], Some, length, map, ◌⊎◌}
+use Rattle.std.specs.Prelude.{◌≡◌, ℕ, ◌<◌, Bool, zero, suc, List, [], Some, map, ◌⊎◌}
 use Rattle.kernel_tree.specs.Formula.{Formula, bound_value, Vars}
 use Rattle.kernel_tree.specs.Code.{Code, End, Kernel}
 use Rattle.kernel_tree.specs.Launch.{Launch, Cells, IsWhole, group_of, item_count}
@@ -8,11 +8,12 @@ use Rattle.kernel_tree.specs.Item.{Frame, loop_variables}
 use Rattle.kernel_tree.specs.Device.{Cell, device_of, still}
 use Rattle.barrier_placement.specs.Fencing.{Fencing}
 use Rattle.printed_form.specs.MapForms.{statement_over_groups}
+use Rattle.printed_form.specs.Runs.{Fits}
 use Rattle.group_phases.specs.Bodies.{CanDo}
 use Rattle.group_phases.specs.Cells.{output_cell, IsOwnOutput}
 use Rattle.group_phases.specs.Epochs.{IsPast}
 use Rattle.group_phases.specs.Work.{Work, IsOwnLocal, IsKnown}
-use Rattle.group_phases.specs.Groups.{GroupOutputs}
+use Rattle.group_phases.specs.Groups.{GroupOutputs, declared}
 use Rattle.group_phases.specs.TurnForms.{Form, TakesTurns, Tests}
 
 -- m phases from phase q on, and then what closes: `IsPhase q code rest` says that
@@ -65,7 +66,7 @@ pub record PhasedMap (k : Kernel) (l : Launch) (c : Cells) (owner : (array index
     (wanted : List (List ℕ)) (turns : (group : ℕ) → ℕ) (variables : (turn item : ℕ) → List ℕ)
     (n : ℕ) (IsPhase : ℕ → Code → Code → Type 0) (w : Work) : Type 0 where
   pub whole : IsWhole l
-  pub begins : (j : ℕ) (vars : Vars) → j < item_count l → length vars.words ≡ k.variables
+  pub begins : (j : ℕ) (vars : Vars) → j < item_count l → Fits (declared k) vars
       → w.knows 0 0 j vars
   pub again : (t j : ℕ) (vars : Vars) → j < item_count l → w.knows t n j vars
       → w.knows (suc t) 0 j vars

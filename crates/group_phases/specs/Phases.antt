@@ -1,7 +1,7 @@
 -- The phases of a map over work-groups, each a map over the items of a group, with what stands for
 -- its values at every turn.
-use Rattle.std.specs.Prelude.{◌≡◌, ℕ, zero, suc, ◌+◌, ◌*◌, ◌%◌, ◌<◌, ◌≤◌, Bool, List, [], ◌∷◌, None, length}
-use Rattle.kernel_tree.specs.Formula.{Vars, word}
+use Rattle.std.specs.Prelude.{◌≡◌, ℕ, zero, suc, ◌+◌, ◌*◌, ◌%◌, ◌<◌, Bool, List, [], ◌∷◌, None}
+use Rattle.kernel_tree.specs.Formula.{Vars, word, vector}
 use Rattle.kernel_tree.specs.Code.{Code, Kernel}
 use Rattle.kernel_tree.specs.Launch.{Launch, Cells, item_count, group_of, groups_across}
 use Rattle.kernel_tree.specs.Device.{Cell, cell_at, length_in}
@@ -10,11 +10,11 @@ use Rattle.barrier_placement.specs.declared.touches.Touch.{Touch}
 use Rattle.lift_ir.specs.Types.{Ty, IsPosition}
 use Rattle.lift_ir.specs.Terms.{LoadSet, WorkGroup, Local, Term, push}
 use Rattle.lift_ir.specs.Scalars.{Scalars, at_index, mapped, scalars_of}
-use Rattle.printed_form.specs.Marks.{Mark, Nowhere, Register, Spot, Marks, loaded_marks}
-use Rattle.printed_form.specs.Counts.{load_count, private_count}
+use Rattle.printed_form.specs.Marks.{Mark, Nowhere, Register, Lane, Spot, Marks, loaded_marks}
+use Rattle.printed_form.specs.Counts.{Count, more, no_variables, load_count, private_count}
 use Rattle.printed_form.specs.Form.{IsTurnOf, IsLoaded, IsWritten}
 use Rattle.printed_form.specs.MapForms.{MapForm, form_over_groups, variables_in, AreTurns}
-use Rattle.printed_form.specs.Runs.{IsFilled, IsOpen, mark_cell}
+use Rattle.printed_form.specs.Runs.{Fits, lane, IsFilled, IsOpen, mark_cell}
 use Rattle.group_phases.specs.Work.{Work, IsKnown}
 
 -- a phase: a map over the items of a group in a form, whatever the turn, at a launch
@@ -26,7 +26,7 @@ pub record Phase (A : Type 0) : Type 0 where
   pub element : Ty
   pub result : Ty
   pub types : ℕ → Ty  -- of the binders that the body names
-  pub variables : ℕ  -- private variables in use before it
+  pub variables : Count  -- private variables in use before it
   pub privates : ℕ  -- private arrays in use before it
   pub locals : ℕ  -- local arrays filled before it
 
@@ -53,7 +53,7 @@ pub record PhaseList (A : Type 0) : Type 0 where
   pub once : Bool
   pub turns : ℕ
   pub count : ℕ
-  pub variables : ℕ
+  pub variables : Count
   pub ins : ℕ → Marks
   pub src : ℕ → Ty
   pub sources : ℕ → Scalars
@@ -64,6 +64,13 @@ pub record PhaseList (A : Type 0) : Type 0 where
   pub filled_in : (array : ℕ) → ℕ
   pub filler : Cell → ℕ
   pub value : (group turn : ℕ) → Cell → ℕ
+
+-- a mark that is a variable below these, or a lane of one, holds v
+abbrev pub HeldBelow : Count → Vars → Mark → (v : ℕ) → Type 0
+HeldBelow n vars (Register r) v = (r < n.words) × (word vars r ≡ v)
+HeldBelow n vars (Lane r j) v = (r < n.fours) × (lane (vector vars r) j ≡ v)
+HeldBelow n vars (Spot b i) v = Unit {0}
+HeldBelow n vars Nowhere v = Unit {0}
 
 -- the turn of the whole map that the j-th item's group takes as its t-th
 abbrev pub turn_of : Launch → (t j : ℕ) → ℕ
@@ -98,23 +105,23 @@ module _ {A : Type 0} (num : A → ℕ) (l : Launch) (p : PhaseList A) where
       × (cs : List Bool) × (r : List ℕ) × IsPosition (p.phase q).result cs r
       × (b ≡ cell_of l j ((p.place (turn_of l t j) q).to cs (row_of l j u ∷ r)))
 
-  -- one of the bound element's scalars is in this variable at turn i, and is v
-  abbrev pub IsBoundScalar : (i var v : ℕ) → Type 0
-  IsBoundScalar i var v =
+  -- this stands for one of the bound element's scalars at turn i, which is v
+  abbrev pub IsBoundScalar : (i : ℕ) → Mark → (v : ℕ) → Type 0
+  IsBoundScalar i m v =
       (cs : List Bool) × (r : List ℕ) × IsPosition p.top.type cs r
-      × (loaded_marks p.top.loads (p.top.marks i) 0 cs r ≡ Register var)
+      × (loaded_marks p.top.loads (p.top.marks i) no_variables cs r ≡ m)
       × (p.top.scalars i cs r ≡ v)
 
   -- variables hold the bound element's scalars of turn i
   abbrev pub HoldsTurn : (i : ℕ) → Vars → Type 0
   HoldsTurn i vars =
-      (var v : ℕ) → IsBoundScalar i var v → (var < load_count p.top.loads) × (word vars var ≡ v)
+      (m : Mark) (v : ℕ) → IsBoundScalar i m v → HeldBelow (load_count p.top.loads) vars m v
 
   -- before each phase there are variables enough, and from the second
   -- on they hold the turn's scalars
   abbrev pub knows : (t q j : ℕ) → Vars → Type 0
-  knows t zero j vars = p.variables ≤ length vars.words
-  knows t (suc q) j vars = (p.variables ≤ length vars.words) × HoldsTurn (turn_of l t j) vars
+  knows t zero j vars = Fits p.variables vars
+  knows t (suc q) j vars = Fits p.variables vars × HoldsTurn (turn_of l t j) vars
 
   -- the work of the phases, whatever code does it
   abbrev pub work_of : Work
@@ -145,7 +152,7 @@ module _ {A : Type 0} (num : A → ℕ) (l : Launch) (p : PhaseList A) where
       (loaded_marks (p.phase q).loads (at_index j (p.place i q).marks)
       (p.phase q).variables)
       (p.place i q).env)
-      (p.phase q).privates ((p.phase q).variables + load_count (p.phase q).loads)
+      (p.phase q).privates (more (p.phase q).variables (load_count (p.phase q).loads))
       (p.phase q).body (at_index j (p.place i q).to) inner last)
       code rest
 
@@ -155,7 +162,7 @@ module _ {A : Type 0} (num : A → ℕ) (l : Launch) (p : PhaseList A) where
       (mid : Code)
       ×
       ((item i : ℕ) → item < item_count l → i < p.turns → IsTurnOf l item WorkGroup i
-      → IsLoaded l item p.ins (variables_at i) p.top.loads (p.top.marks i) 0 code mid)
+      → IsLoaded l item p.ins (variables_at i) p.top.loads (p.top.marks i) no_variables code mid)
       × IsPhaseMap 0 mid rest
   IsPhase (suc q) code rest = IsPhaseMap (suc q) code rest
 
@@ -167,7 +174,8 @@ IsRead num k l c p t q j (Spot b i) v =
     (i < length_in k c b) × IsFilled (p.phase q).locals (p.phase q).privates b
     × IsKnown l c (work_of num l p) t q j (cell_at l j b i)
     × (p.value (group_of l j) t (cell_at l j b i) ≡ v)
-IsRead num k l c p t q j (Register r) v = IsBoundScalar num l p (turn_of l t j) r v
+IsRead num k l c p t q j (Register r) v = IsBoundScalar num l p (turn_of l t j) (Register r) v
+IsRead num k l c p t q j (Lane r i) v = IsBoundScalar num l p (turn_of l t j) (Lane r i) v
 IsRead num k l c p t q j Nowhere v = ⊥
 
 -- what stands for a value of a type can be read there

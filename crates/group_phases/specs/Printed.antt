@@ -13,13 +13,13 @@ use Rattle.lift_ir.specs.Types.{ArrayOf, IsPosition}
 use Rattle.lift_ir.specs.Terms.{LoadsScalars, push, HasType}
 use Rattle.lift_ir.specs.Scalars.{at_index}
 use Rattle.printed_form.specs.Headline.{EveryRunKeeps}
-use Rattle.printed_form.specs.Counts.{load_count, variable_count}
+use Rattle.printed_form.specs.Counts.{more, AtMost, load_count, variable_count}
 use Rattle.printed_form.specs.Form.{Declares}
 use Rattle.printed_form.specs.MapForms.{MakesTurns}
 use Rattle.printed_form.specs.Whole.{IsGiven}
 use Rattle.group_phases.specs.Cells.{input_cell, output_cell, IsOwnOutput}
 use Rattle.group_phases.specs.Work.{IsOwnLocal}
-use Rattle.group_phases.specs.Groups.{GroupOutputs, loop_turns}
+use Rattle.group_phases.specs.Groups.{GroupOutputs, declared, loop_turns}
 use Rattle.group_phases.specs.Phased.{IsGroupKernel}
 use Rattle.group_phases.specs.Outcome.{BarriersServeAll}
 use Rattle.group_phases.specs.Phases.{PhaseList, turn_of, row_of, cell_of, phase_scalars, targets, work_of, IsPhase, AreRead, IsFillable}
@@ -38,11 +38,13 @@ module _ {A : Type 0} (p : PhaseList A) where
     pub once : p.once ≡ true → p.turns ≤ 1
     pub rows : (q : ℕ) → q < p.count → (p.phase q).len + l.local.0 ≤ 2 ^ 32
     pub forms : (q : ℕ) → q < p.count → MakesTurns (p.phase q).form (p.phase q).len l
-    pub variables : p.variables ≤ k.variables
+    pub variables : AtMost p.variables (declared k)
     pub fits : (q : ℕ) → q < p.count
-        → (p.phase q).variables + load_count (p.phase q).loads
-        + variable_count (p.phase q).body ≤ p.variables
-    pub after_top : (q : ℕ) → q < p.count → load_count p.top.loads ≤ (p.phase q).variables
+        → AtMost
+        (more (more (p.phase q).variables (load_count (p.phase q).loads))
+        (variable_count (p.phase q).body)) p.variables
+    pub after_top : (q : ℕ) → q < p.count
+        → AtMost (load_count p.top.loads) (p.phase q).variables
 
   module _ (num : A → ℕ) (k : Kernel) (l : Launch) (c : Cells) where
     -- each phase is typed, loads scalars alone, and its private arrays are declared

@@ -82,9 +82,9 @@ pub fn walks_take_places_once()
 {}
 
 /// A kernel that is printed for phases of two dimensions, each a nest of two maps over the items of
-/// a group, within a nest over the groups of a grid: with any barriers that separate the conflicting
-/// ones, every run keeps the headline, and its barriers serve. So it is with the needed barriers,
-/// where all uses are of local arrays.
+/// a group, within a nest over the groups of a grid: with any barriers that separate the
+/// conflicting ones, every run keeps the headline, and its barriers serve. So it is with the needed
+/// barriers, where all uses are of local arrays.
 pub fn grid_phases_keep()
     ensures keep { GridPhasesKeep (List Monomial) }
     ensures serve { GridPhasesServe (List Monomial) }

@@ -23,6 +23,8 @@ pub enum Form {
     Reverse,
     Slide(u32, u32),
     Pad(u32, u32),
+    AsVector,
+    AsScalar,
 }
 
 impl Form {
@@ -34,6 +36,8 @@ impl Form {
             Form::Reverse => UnaryForm::Layout(Layout::Reverse),
             Form::Slide(size, step) => UnaryForm::Slide(size, step),
             Form::Pad(left, right) => UnaryForm::Pad(left, right),
+            Form::AsVector => UnaryForm::Layout(Layout::AsVector),
+            Form::AsScalar => UnaryForm::Layout(Layout::AsScalar),
         }
     }
 }
@@ -157,7 +161,7 @@ pub fn has_cell(
 ) -> Result<bool, AllocError> {
     let choices = PairStack::from_choices(alloc, choices)?;
     match view.access(alloc, choices, literals(alloc, position)?)? {
-        Access::Nothing | Access::Variable(_) => Ok(false),
+        Access::Nothing | Access::Variable(_) | Access::Vector(_) => Ok(false),
         Access::InCell(found) => Ok(
             found.kind == ArrayKind::Input
                 && found.array == buffer
@@ -188,7 +192,21 @@ pub fn has_variable(
 ) -> Result<bool, AllocError> {
     let choices = PairStack::from_choices(alloc, choices)?;
     match view.access(alloc, choices, IndexStack::new(alloc))? {
-        Access::Nothing | Access::InCell(_) => Ok(false),
+        Access::Nothing | Access::InCell(_) | Access::Vector(_) => Ok(false),
         Access::Variable(found) => Ok(found == variable),
+    }
+}
+
+/// Whether the view is of this vector in variables at pair choices.
+pub fn has_vector(
+    alloc: Global,
+    view: &View,
+    choices: &[bool],
+    vector: u32,
+) -> Result<bool, AllocError> {
+    let choices = PairStack::from_choices(alloc, choices)?;
+    match view.access(alloc, choices, IndexStack::new(alloc))? {
+        Access::Nothing | Access::InCell(_) | Access::Variable(_) => Ok(false),
+        Access::Vector(found) => Ok(found == vector),
     }
 }

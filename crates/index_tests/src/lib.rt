@@ -4,6 +4,8 @@
 #[cfg(test)]
 mod cells;
 #[cfg(test)]
+mod fours;
+#[cfg(test)]
 mod growth;
 #[cfg(test)]
 mod kinds;

@@ -7,7 +7,7 @@ ghost use Rattle.lift_ir.specs.Lowering.{element_ty};
 ghost use Rattle.lift_ir.specs.Types.{width};
 
 use crate::kinds::{Place, arrays, has_all, has_cell, has_variable};
-use array_views::{ArrayKind, IndexStack, LoadSet, PairStack, View};
+use array_views::{ArrayKind, Count, IndexStack, LoadSet, PairStack, View};
 use index_expr::Index;
 use lift_tree::ty::Ty;
 use size_arith::Names;
@@ -22,6 +22,11 @@ fn pair(alloc: Global, a: Ty, b: Ty) -> Result<Ty, AllocError>
 {
     let a = Box::new(alloc, a)?;
     Ok(Ty::Pair(a, Box::new(alloc, b)?))
+}
+
+// So many variables of a word.
+fn words(words: u32) -> Count {
+    Count { words, fours: 0 }
 }
 
 // An array of four numbers in this buffer of the inputs.
@@ -74,8 +79,9 @@ fn sides_are_loaded_apart(rt: HostRuntime) -> Result<(), Fail> {
     let element = zip.at(alloc, Index::Literal(2))?;
     let right = Box::new(alloc, LoadSet::Take)?;
     let loads = LoadSet::Each(Box::new(alloc, LoadSet::Skip)?, right);
-    assert!(rt; loads.count() == 1);
-    let loaded = element.loaded(alloc, &loads, 5)?;
+    let count = loads.count()?;
+    assert!(rt; count.words == 1 && count.fours == 0);
+    let loaded = element.loaded(alloc, &loads, words(5))?;
     assert!(rt; has_cell(alloc, &loaded, &[false], &[], 0, 2)?);
     assert!(rt; has_variable(alloc, &loaded, &[true], 5)?);
     Ok(())
@@ -86,7 +92,7 @@ fn elements_are_held(rt: HostRuntime) -> Result<(), Fail> {
     let alloc = rt.alloc();
     let inner = pair(alloc, Ty::Number, Ty::Number)?;
     let ty = pair(alloc, inner, Ty::Number)?;
-    let held = View::held(alloc, &ty, 4)?;
+    let held = View::held(alloc, &ty, words(4))?;
     assert!(rt; has_variable(alloc, &held, &[false, false], 4)?);
     assert!(rt; has_variable(alloc, &held, &[false, true], 5)?);
     assert!(rt; has_variable(alloc, &held, &[true], 6)?);

@@ -8,8 +8,8 @@ use size_arith::{Monomial, Name, Names, Poly};
 use std::alloc::{AllocError, Global};
 use std::test::Fail;
 
-// The index at that many loop variables.
-fn spelled(alloc: Global, view: &View, dimensions: u32) -> Result<String, AllocError> {
+/// The index at that many loop variables.
+pub fn spelled(alloc: Global, view: &View, dimensions: u32) -> Result<String, AllocError> {
     let indices = loop_variables(alloc, 0, dimensions)?;
     match view.target(alloc, PairStack::new(alloc), indices)? {
         None => Ok(String::new(alloc)),
@@ -17,9 +17,9 @@ fn spelled(alloc: Global, view: &View, dimensions: u32) -> Result<String, AllocE
     }
 }
 
-// An array's lengths, layouts with the lengths of types, how many dimensions the innermost has, and
-// the index.
-type Row = (
+/// An array's lengths, layouts with the lengths of types, how many dimensions the innermost has, and
+/// the index.
+pub type Row = (
     &'static [u32],
     &'static [(Form, &'static [u32])],
     u32,

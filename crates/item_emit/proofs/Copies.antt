@@ -1,7 +1,7 @@
 -- A term whose loads suffice has short copies.
 use Rattle.std.proofs.Common.{ℕ, ◌<◌, ◌^◌, Bool, List, arith}
 use Rattle.lift_ir.specs.Types.{Ty, size, IsShort}
-use Rattle.lift_ir.specs.Terms.{Term, Literal, Bound, Source, Apply, ApplyNumber, Select, Both, Project, Reshape, LetArray, LetElement, Map, Fold, Store, Copy, push}
+use Rattle.lift_ir.specs.Terms.{Term, Literal, Bound, Source, Apply, ApplyNumber, ApplyLanes, DivideLanes, Select, Both, Project, Reshape, LetArray, LetElement, Map, Fold, Store, Copy, push}
 use Rattle.lift_ir.specs.Loads.{LoadsSuffice, all, covers, held_scalars}
 use Rattle.item_emit.specs.Copies.{HasShortCopies, IsShortCopy}
 
@@ -14,6 +14,8 @@ short_copies h (Bound v) s = tt
 short_copies h (Source v) s = tt
 short_copies h (Apply o a b) s = tt
 short_copies h (ApplyNumber o n a) s = tt
+short_copies h (ApplyLanes o l r a b) s = tt
+short_copies h (DivideLanes o n a) s = tt
 short_copies h (Select c a b) s = tt
 short_copies h (Both zips a b) s = (short_copies h a s.0, short_copies h b s.1)
 short_copies h (Project second a) s = short_copies h a s

@@ -1,22 +1,23 @@
 //! Loads and stores, one for each component of an element.
 
 ghost use Rattle.std.specs.Prelude.{◌≡◌, [], IfOk, OnOk};
-ghost use Rattle.kernel_tree.specs.Tree.{array_of, formula_of};
+ghost use Rattle.kernel_tree.specs.Tree.{array_of, formula_of, lanes_of};
 ghost use Rattle.lift_tree.specs.Types.{ty_of};
 ghost use Rattle.lift_ir.specs.Lowering.{element_ty};
 ghost use Rattle.printed_form.specs.Printer as printer;
 ghost use Rattle.printed_form.specs.Views as views;
 ghost use Rattle.array_views.specs.Arrays.{array_with};
+ghost use Rattle.array_views.specs.Counts.{count_of};
 ghost use Rattle.array_views.specs.Views.{loads_of, view_in};
 ghost use Rattle.lowering.specs.Terms.{load_set_of};
 ghost use Rattle.item_emit.specs.Blocks.{code_in};
 ghost use Rattle.item_emit.specs.Parts.{parts_of};
 
 use crate::block::Block;
-use crate::counts::{load_count, plus};
+use crate::counts::load_count;
 use crate::expressions::Part;
-use array_views::{Access, ArrayKind, IndexStack, PairStack, View};
-use kernel_tree::tree::{Array, Expr, Stmt};
+use array_views::{Access, ArrayKind, Count, IndexStack, PairStack, View};
+use kernel_tree::tree::{Array, Expr, Lanes, Stmt};
 use length_spelling::spell_index;
 use lift_tree::ty::Ty;
 use lowering::term::LoadSet;
@@ -43,7 +44,26 @@ fn put_store(alloc: Global, target: &View, value: Expr, block: &mut Block) -> Re
             let index = spell_index(alloc, &cell.index)?;
             block.put(Stmt::Store(array_at(cell.kind, cell.array), index, value))
         }
-        Access::Nothing | Access::Variable(_) => Ok(()),
+        Access::Nothing | Access::Variable(_) | Access::Vector(_) => Ok(()),
+    }
+}
+
+// Stores a vector where the view says.
+fn put_store_four(
+    alloc: Global,
+    target: &View,
+    value: Lanes,
+    block: &mut Block,
+) -> Result<(), AllocError>
+    ensures { OnOk result (code_in block.new ≡ printer.print_store_four (view_in target.now [] [])
+        (lanes_of value) (code_in block.old)) }
+{
+    match target.access(alloc, PairStack::new(alloc), IndexStack::new(alloc))? {
+        Access::InCell(cell) => {
+            let offset = spell_index(alloc, &cell.index)?;
+            block.put(Stmt::StoreFour(array_at(cell.kind, cell.array), offset, value))
+        }
+        Access::Nothing | Access::Variable(_) | Access::Vector(_) => Ok(()),
     }
 }
 
@@ -62,7 +82,26 @@ fn put_load(
             let index = spell_index(alloc, &cell.index)?;
             block.put(Stmt::Load(variable, array_at(cell.kind, cell.array), index))
         }
-        Access::Nothing | Access::Variable(_) => Ok(()),
+        Access::Nothing | Access::Variable(_) | Access::Vector(_) => Ok(()),
+    }
+}
+
+// Loads the vector that the view says into a private variable of four words.
+fn put_load_four(
+    alloc: Global,
+    source: &View,
+    variable: u32,
+    block: &mut Block,
+) -> Result<(), AllocError>
+    ensures { OnOk result (code_in block.new
+        ≡ printer.print_load_four (view_in source.now [] []) variable (code_in block.old)) }
+{
+    match source.access(alloc, PairStack::new(alloc), IndexStack::new(alloc))? {
+        Access::InCell(cell) => {
+            let offset = spell_index(alloc, &cell.index)?;
+            block.put(Stmt::LoadFour(variable, array_at(cell.kind, cell.array), offset))
+        }
+        Access::Nothing | Access::Variable(_) | Access::Vector(_) => Ok(()),
     }
 }
 
@@ -79,6 +118,7 @@ pub fn put_stored(
 {
     match ty {
         Ty::Number | Ty::Array(_, _) => put_store(alloc, target, part.number(alloc)?, block),
+        Ty::Vector => put_store_four(alloc, target, part.lanes(alloc)?, block),
         Ty::Pair(a, b) => {
             let second = target.component(alloc, true)?;
             put_stored(alloc, b, &Part::Second(part), &second, block)?;
@@ -88,22 +128,23 @@ pub fn put_stored(
     }
 }
 
-/// Loads these of an element's components, the first into the private variable of this number.
+/// Loads these of an element's components into private variables, before which there are so many.
 pub fn put_loaded(
     alloc: Global,
     loads: &LoadSet,
     source: &View,
-    first: u32,
+    first: Count,
     block: &mut Block,
 ) -> Result<(), AllocError>
     ensures { OnOk result (code_in block.new ≡ printer.print_loaded
-        (load_set_of loads.now) (view_in source.now) first (code_in block.old)) }
+        (load_set_of loads.now) (view_in source.now) (count_of first) (code_in block.old)) }
 {
     match loads {
         LoadSet::Skip => Ok(()),
-        LoadSet::Take => put_load(alloc, source, first, block),
+        LoadSet::Take => put_load(alloc, source, first.words, block),
+        LoadSet::TakeFour => put_load_four(alloc, source, first.fours, block),
         LoadSet::Each(left, right) => {
-            let second = plus(first, load_count(left)?)?;
+            let second = first.more(load_count(left)?)?;
             put_loaded(alloc, right, &source.component(alloc, true)?, second, block)?;
             put_loaded(alloc, left, &source.component(alloc, false)?, first, block)
         }
@@ -116,6 +157,7 @@ fn viewed_loads(alloc: Global, loads: &LoadSet) -> Result<array_views::LoadSet, 
     match loads {
         LoadSet::Skip => Ok(array_views::LoadSet::Skip),
         LoadSet::Take => Ok(array_views::LoadSet::Take),
+        LoadSet::TakeFour => Ok(array_views::LoadSet::TakeFour),
         LoadSet::Each(left, right) => {
             let left = Box::new(alloc, viewed_loads(alloc, left)?)?;
             let right = Box::new(alloc, viewed_loads(alloc, right)?)?;
@@ -125,10 +167,14 @@ fn viewed_loads(alloc: Global, loads: &LoadSet) -> Result<array_views::LoadSet, 
 }
 
 /// What stands for an element once these of its components are loaded.
-pub fn loaded(alloc: Global, loads: &LoadSet, source: &View, first: u32) -> Result<View, AllocError>
+pub fn loaded(
+    alloc: Global,
+    loads: &LoadSet,
+    source: &View,
+    first: Count,
+) -> Result<View, AllocError>
     ensures { IfOk result (λ v. view_in v
-        ≡ views.loaded_view (load_set_of loads.now) (view_in source.now) first) }
+        ≡ views.loaded_view (load_set_of loads.now) (view_in source.now) (count_of first)) }
 {
-    plus(first, load_count(loads)?)?;
     source.loaded(alloc, &viewed_loads(alloc, loads)?, first)
 }

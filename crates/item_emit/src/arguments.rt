@@ -204,6 +204,8 @@ pub fn argument(
         Term::Literal(_)
         | Term::Apply(_, _, _)
         | Term::ApplyNumber(_, _, _)
+        | Term::ApplyLanes { .. }
+        | Term::DivideLanes(_, _, _)
         | Term::Select(_, _, _)
         | Term::LetElement(_, _, _)
         | Term::Map(_)

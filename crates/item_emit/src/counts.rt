@@ -7,9 +7,11 @@ ghost use Rattle.lift_ir.specs.AtLaunch.{shape_of, ty_at};
 ghost use Rattle.lift_ir.specs.Lowering.{element_ty};
 ghost use Rattle.lift_ir.specs.Types as types;
 ghost use Rattle.printed_form.specs.Counts as spec;
+ghost use Rattle.array_views.specs.Counts.{count_of};
 ghost use Rattle.lowering.specs.Terms.{load_set_of, term_of};
 ghost use Rattle.item_emit.specs.Copies.{copy_arrays};
 
+use array_views::{Count, held_count};
 use lift_tree::ty::Ty;
 use lowering::term::{Fold, LoadSet, Space, Term};
 use std::alloc::AllocError;
@@ -30,59 +32,54 @@ pub fn width(ty: &Ty) -> Result<u32, AllocError>
     ensures literal { IfOk result (λ n. n ≡ types.width (ty_at [] (ty_of ty.now))) }
 {
     match ty {
-        Ty::Number => Ok(1),
+        Ty::Number | Ty::Vector => Ok(1),
         Ty::Pair(a, b) => plus(width(a)?, width(b)?),
         Ty::Array(element, _) => width(element),
     }
 }
 
-/// How many components an element's type has, an array in it for a number.
-pub fn element_width(ty: &Ty) -> Result<u32, AllocError>
-    ensures { IfOk result (λ n. n ≡ types.width (element_ty (ty_of ty.now))) }
-{
-    match ty {
-        Ty::Number | Ty::Array(_, _) => Ok(1),
-        Ty::Pair(a, b) => plus(element_width(a)?, element_width(b)?),
-    }
-}
-
-/// How many scalars are loaded.
-pub fn load_count(loads: &LoadSet) -> Result<u32, AllocError>
-    ensures { IfOk result (λ n. n ≡ spec.load_count (load_set_of loads.now)) }
+/// How many variables the scalars and vectors of an element are loaded into.
+pub fn load_count(loads: &LoadSet) -> Result<Count, AllocError>
+    ensures { IfOk result (λ n. count_of n ≡ spec.load_count (load_set_of loads.now)) }
 {
     match loads {
-        LoadSet::Skip => Ok(0),
-        LoadSet::Take => Ok(1),
-        LoadSet::Each(left, right) => plus(load_count(left)?, load_count(right)?),
+        LoadSet::Skip => Ok(Count::none()),
+        LoadSet::Take => Ok(Count::one_word()),
+        LoadSet::TakeFour => Ok(Count::one_four()),
+        LoadSet::Each(left, right) => load_count(left)?.more(load_count(right)?),
     }
 }
 
 /// How many temporaries a new accumulator of this type goes through.
-pub fn temporaries(ty: &Ty) -> Result<u32, AllocError>
-    ensures { IfOk result (λ n. n ≡ spec.temporaries (element_ty (ty_of ty.now))) }
+pub fn temporaries(ty: &Ty) -> Result<Count, AllocError>
+    ensures { IfOk result (λ n. count_of n ≡ spec.temporaries (element_ty (ty_of ty.now))) }
 {
     match ty {
-        Ty::Number | Ty::Array(_, _) => Ok(0),
-        Ty::Pair(a, b) => plus(element_width(a)?, element_width(b)?),
+        Ty::Number | Ty::Vector | Ty::Array(_, _) => Ok(Count::none()),
+        Ty::Pair(a, b) => held_count(a)?.more(held_count(b)?),
     }
 }
 
 /// How many private variables are first assigned in an element term.
-pub fn let_variables(term: &Term) -> Result<u32, AllocError>
-    ensures { IfOk result (λ n. n ≡ spec.let_variables (term_of term.now)) }
+pub fn let_variables(term: &Term) -> Result<Count, AllocError>
+    ensures { IfOk result (λ n. count_of n ≡ spec.let_variables (term_of term.now)) }
 {
     match term {
         Term::Apply(_, a, b) | Term::Pair(a, b) | Term::Zip(a, b) => {
-            plus(let_variables(a)?, let_variables(b)?)
+            let_variables(a)?.more(let_variables(b)?)
         }
-        Term::ApplyNumber(_, _, a) | Term::First(a) | Term::Second(a) => let_variables(a),
+        Term::ApplyLanes { left, right, .. } => let_variables(left)?.more(let_variables(right)?),
+        Term::ApplyNumber(_, _, a)
+        | Term::DivideLanes(_, _, a)
+        | Term::First(a)
+        | Term::Second(a) => let_variables(a),
         Term::Select(condition, yes, no) => {
-            let rest = plus(let_variables(yes)?, let_variables(no)?)?;
-            plus(let_variables(condition)?, rest)
+            let rest = let_variables(yes)?.more(let_variables(no)?)?;
+            let_variables(condition)?.more(rest)
         }
         Term::LetElement(ty, value, body) => {
-            let rest = plus(element_width(ty)?, let_variables(body)?)?;
-            plus(let_variables(value)?, rest)
+            let rest = held_count(ty)?.more(let_variables(body)?)?;
+            let_variables(value)?.more(rest)
         }
         Term::Literal(_)
         | Term::Bound(_)
@@ -92,51 +89,52 @@ pub fn let_variables(term: &Term) -> Result<u32, AllocError>
         | Term::Map(_)
         | Term::Fold(_)
         | Term::Store(_, _)
-        | Term::Copy(_, _, _) => Ok(0),
+        | Term::Copy(_, _, _) => Ok(Count::none()),
     }
 }
 
 // How many private variables a fold has besides those of its array.
-fn fold_variables(fold: &Fold) -> Result<u32, AllocError>
-    ensures { IfOk result (λ n. n ≡ spec.let_variables (term_of fold.now.start)
-        + (types.width (element_ty (ty_of fold.now.accumulator))
-        + (spec.load_count (load_set_of fold.now.loads)
-        + (spec.let_variables (term_of fold.now.body)
-        + spec.temporaries (element_ty (ty_of fold.now.accumulator)))))) }
+fn fold_variables(fold: &Fold) -> Result<Count, AllocError>
+    ensures { IfOk result (λ n. let t = element_ty (ty_of fold.now.accumulator) in count_of n
+        ≡ spec.more (spec.let_variables (term_of fold.now.start)) (spec.more (spec.held_count t)
+        (spec.more (spec.load_count (load_set_of fold.now.loads))
+        (spec.more (spec.let_variables (term_of fold.now.body)) (spec.temporaries t))))) }
 {
-    let rest = plus(let_variables(&fold.body)?, temporaries(&fold.accumulator)?)?;
-    let rest = plus(load_count(&fold.loads)?, rest)?;
-    let rest = plus(element_width(&fold.accumulator)?, rest)?;
-    plus(let_variables(&fold.start)?, rest)
+    let rest = let_variables(&fold.body)?.more(temporaries(&fold.accumulator)?)?;
+    let rest = load_count(&fold.loads)?.more(rest)?;
+    let rest = held_count(&fold.accumulator)?.more(rest)?;
+    let_variables(&fold.start)?.more(rest)
 }
 
 /// How many private variables a term in writing position, or an argument, has.
-pub fn variable_count(term: &Term) -> Result<u32, AllocError>
-    ensures { IfOk result (λ n. n ≡ spec.variable_count (term_of term.now)) }
+pub fn variable_count(term: &Term) -> Result<Count, AllocError>
+    ensures { IfOk result (λ n. count_of n ≡ spec.variable_count (term_of term.now)) }
 {
     match term {
         Term::Pair(a, b) | Term::Zip(a, b) | Term::LetArray(a, b) => {
-            plus(variable_count(a)?, variable_count(b)?)
+            variable_count(a)?.more(variable_count(b)?)
         }
         Term::First(a) | Term::Second(a) | Term::Reshape(_, a) | Term::Copy(_, _, a) => {
             variable_count(a)
         }
         Term::LetElement(ty, value, body) => {
-            let rest = plus(element_width(ty)?, variable_count(body)?)?;
-            plus(let_variables(value)?, rest)
+            let rest = held_count(ty)?.more(variable_count(body)?)?;
+            let_variables(value)?.more(rest)
         }
         Term::Map(map) => {
-            let rest = plus(load_count(&map.loads)?, variable_count(&map.body)?)?;
-            plus(variable_count(&map.array)?, rest)
+            let rest = load_count(&map.loads)?.more(variable_count(&map.body)?)?;
+            variable_count(&map.array)?.more(rest)
         }
-        Term::Fold(fold) => plus(variable_count(&fold.array)?, fold_variables(fold)?),
+        Term::Fold(fold) => variable_count(&fold.array)?.more(fold_variables(fold)?),
         Term::Store(_, a) => let_variables(a),
         Term::Literal(_)
         | Term::Bound(_)
         | Term::Source(_)
         | Term::Apply(_, _, _)
         | Term::ApplyNumber(_, _, _)
-        | Term::Select(_, _, _) => Ok(0),
+        | Term::ApplyLanes { .. }
+        | Term::DivideLanes(_, _, _)
+        | Term::Select(_, _, _) => Ok(Count::none()),
     }
 }
 
@@ -161,6 +159,8 @@ pub fn private_count(term: &Term) -> Result<u32, AllocError>
         | Term::Source(_)
         | Term::Apply(_, _, _)
         | Term::ApplyNumber(_, _, _)
+        | Term::ApplyLanes { .. }
+        | Term::DivideLanes(_, _, _)
         | Term::Select(_, _, _)
         | Term::Store(_, _) => Ok(0),
     }
@@ -182,6 +182,8 @@ pub fn local_count(term: &Term) -> Result<u32, AllocError>
         | Term::Source(_)
         | Term::Apply(_, _, _)
         | Term::ApplyNumber(_, _, _)
+        | Term::ApplyLanes { .. }
+        | Term::DivideLanes(_, _, _)
         | Term::Select(_, _, _)
         | Term::LetElement(_, _, _)
         | Term::Fold(_)

@@ -19,6 +19,7 @@ use crate::block::Block;
 use crate::counts::{variable_count, width};
 use crate::scope::Scope;
 use crate::statements::{Site, put_written};
+use array_views::Count;
 use kernel_tree::tree::Stmt;
 use lift_tree::ty::Ty;
 use lowered_tree::lowered::Lowered;
@@ -45,20 +46,22 @@ pub fn statements(
         depth: 0,
         scope: &Scope::Empty,
         array: 0,
-        variable: 0,
+        variable: Count::none(),
     };
     let mut block = Block::new(alloc);
     put_written(alloc, declared, &site, term, &target, &mut block)?;
     Ok(block.into_statements())
 }
 
-/// How many parameters of each kind a kernel has, and how many private variables.
+/// How many parameters of each kind a kernel has, and how many private variables, of a word and of
+/// four words.
 #[derive(Clone, Copy)]
 pub struct Counts {
     pub inputs: u32,
     pub outputs: u32,
     pub sizes: u32,
     pub variables: u32,
+    pub vectors: u32,
 }
 
 /// The counts of the kernel of this term of a program.
@@ -68,12 +71,17 @@ pub fn counted(lowered: &Lowered, term: &Term) -> Result<Counts, AllocError>
     ensures outputs { IfOk result
         (λ c. c.outputs ≡ types.width (shape_of (type_in (annotation_of lowered.now.types)))) }
     ensures sizes { IfOk result (λ c. c.sizes ≡ length lowered.now.names) }
-    ensures variables { IfOk result (λ c. c.variables ≡ spec.variable_count (term_of term.now)) }
+    ensures variables { IfOk result
+        (λ c. c.variables ≡ (spec.variable_count (term_of term.now)).words) }
+    ensures vectors { IfOk result
+        (λ c. c.vectors ≡ (spec.variable_count (term_of term.now)).fours) }
 {
+    let Count { words, fours } = variable_count(term)?;
     Ok(Counts {
         inputs: buffer_count(&lowered.inputs)?,
         outputs: width(lowered.types.own_type())?,
         sizes: lowered.names.as_slice().len() as u32,
-        variables: variable_count(term)?,
+        variables: words,
+        vectors: fours,
     })
 }

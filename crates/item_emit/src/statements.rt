@@ -10,10 +10,11 @@ ghost use Rattle.lift_ir.specs.Terms as terms;
 ghost use Rattle.lift_ir.specs.Terms.{push};
 ghost use Rattle.lift_tree.specs.Types.{ty_of};
 ghost use Rattle.printed_form.specs.Arguments.{argument_view, private_arrays};
-ghost use Rattle.printed_form.specs.Counts.{let_variables, load_count, private_count, variable_count};
+ghost use Rattle.printed_form.specs.Counts.{let_variables, load_count, more, private_count, variable_count};
 ghost use Rattle.printed_form.specs.Form as form;
 ghost use Rattle.printed_form.specs.Printer as printer;
 ghost use Rattle.printed_form.specs.Views.{held_sign, held_view, loaded_view, view_at};
+ghost use Rattle.array_views.specs.Counts.{count_of};
 ghost use Rattle.array_views.specs.Views.{view_in};
 ghost use Rattle.lowering.specs.Terms.{fold_of, kind_of, load_set_of, map_of, term_of};
 ghost use Rattle.item_emit.specs.Blocks.{code_in};
@@ -25,13 +26,11 @@ ghost use Rattle.item_emit.specs.Scopes.{scope_of};
 use crate::accesses::{loaded, put_loaded, put_stored};
 use crate::arguments::{Declared, argument, laid};
 use crate::block::Block;
-use crate::counts::{
-    element_width, let_variables, load_count, plus, private_count, variable_count,
-};
-use crate::elements::{held, put_bound, put_element, put_reassigned};
+use crate::counts::{let_variables, load_count, plus, private_count, variable_count};
+use crate::elements::{put_bound, put_element, put_reassigned};
 use crate::expressions::Part;
 use crate::scope::Scope;
-use array_views::View;
+use array_views::{Count, View, held_count};
 use index_expr::Index;
 use kernel_tree::tree::{self, Expr, Start, Stride};
 use length_spelling::{Turn, spell_length};
@@ -40,14 +39,14 @@ use lift_tree::ty::Ty;
 use lowering::term::{Fold, Kind, Map, Space, Term};
 use std::alloc::{AllocError, Global};
 
-/// Where code stands: within so many loops, with these binders in scope, and with the numbers of
-/// the first private array and of the first private variable that aren't taken.
+/// Where code stands: within so many loops, with these binders in scope, with the number of the
+/// first private array that isn't taken, and so many private variables taken.
 #[derive(Clone, Copy)]
 pub struct Site<'s> {
     pub depth: u32,
     pub scope: &'s Scope<'s>,
     pub array: u32,
-    pub variable: u32,
+    pub variable: Count,
 }
 
 impl<'s> Site<'s> {
@@ -58,11 +57,12 @@ impl<'s> Site<'s> {
         ensures array { IfOk result
             (λ site. site.array ≡ self.now.array + private_count (term_of term.now)) }
         ensures variable { IfOk result
-            (λ site. site.variable ≡ self.now.variable + variable_count (term_of term.now)) }
+            (λ site. count_of site.variable
+            ≡ more (count_of self.now.variable) (variable_count (term_of term.now))) }
     {
         Ok(Site {
             array: plus(self.array, private_count(term)?)?,
-            variable: plus(self.variable, variable_count(term)?)?,
+            variable: self.variable.more(variable_count(term)?)?,
             ..*self
         })
     }
@@ -168,9 +168,9 @@ fn put_store(
     block: &mut Block,
 ) -> Result<(), AllocError>
     ensures { OnOk result (code_in block.new ≡ printer.print_element
-        (scope_of site.now.scope.now) site.now.variable (term_of value.now)
+        (scope_of site.now.scope.now) (count_of site.now.variable) (term_of value.now)
         (printer.print_stored (element_ty (ty_of ty.now)) (printer.sign_exprs
-        (scope_of site.now.scope.now) site.now.variable (term_of value.now))
+        (scope_of site.now.scope.now) (count_of site.now.variable) (term_of value.now))
         (view_in target.now) (code_in block.old))) }
 {
     let part = Part::Whole(site.scope, site.variable, value);
@@ -184,18 +184,18 @@ fn fold_turn(
     scope: &Scope,
     fold: &Fold,
     element: &View,
-    accumulator: u32,
+    accumulator: Count,
 ) -> Result<Block, AllocError>
     ensures { IfOk result (λ turn. code_in turn ≡ printer.print_fold_turn (scope_of scope.now)
         (load_set_of fold.now.loads) (element_ty (ty_of fold.now.accumulator))
-        (view_in element.now) accumulator (term_of fold.now.body)) }
+        (view_in element.now) (count_of accumulator) (term_of fold.now.body)) }
 {
     let ty = &fold.accumulator;
     let body = &fold.body;
-    let first_load = plus(accumulator, element_width(ty)?)?;
-    let first_let = plus(first_load, load_count(&fold.loads)?)?;
-    let temporary = plus(first_let, let_variables(body)?)?;
-    let held = held(alloc, ty, accumulator)?;
+    let first_load = accumulator.more(held_count(ty)?)?;
+    let first_let = first_load.more(load_count(&fold.loads)?)?;
+    let temporary = first_let.more(let_variables(body)?)?;
+    let held = View::held(alloc, ty, accumulator)?;
     let bound = loaded(alloc, &fold.loads, element, first_load)?;
     let scope = Scope::Bound(&held, scope);
     let scope = Scope::Bound(&bound, &scope);
@@ -211,22 +211,22 @@ fn fold_turn(
 fn put_result(
     alloc: Global,
     ty: &Ty,
-    accumulator: u32,
+    accumulator: Count,
     target: &View,
     block: &mut Block,
 ) -> Result<(), AllocError>
     ensures { OnOk result (let t = element_ty (ty_of ty.now) in
         code_in block.new ≡ printer.print_stored t
-        (λ cs. held_sign (held_view t accumulator cs []))
+        (λ cs. held_sign (held_view t (count_of accumulator) cs []))
         (view_at (formula.Number 0) (view_in target.now)) (code_in block.old)) }
 {
-    let values = held(alloc, ty, accumulator)?;
+    let values = View::held(alloc, ty, accumulator)?;
     let scope = Scope::Bound(&values, &Scope::Empty);
     let target = at_first(alloc, target)?;
     put_stored(
         alloc,
         ty,
-        &Part::Whole(&scope, 0, &Term::Bound(0)),
+        &Part::Whole(&scope, Count::none(), &Term::Bound(0)),
         &target,
         block,
     )
@@ -242,9 +242,9 @@ fn put_fold_loop(
     target: &View,
     block: &mut Block,
 ) -> Result<(), AllocError>
-    ensures { OnOk result (let env = scope_of site.now.scope.now in let n = site.now.variable in
-        let start = term_of fold.now.start in let acc = n + let_variables start in
-        let t = element_ty (ty_of fold.now.accumulator) in
+    ensures { OnOk result (let env = scope_of site.now.scope.now in
+        let n = count_of site.now.variable in let start = term_of fold.now.start in
+        let acc = more n (let_variables start) in let t = element_ty (ty_of fold.now.accumulator) in
         code_in block.new ≡ printer.print_element env n start
         (printer.print_assigned t (printer.sign_exprs env n start) acc
         (Loops FromZero (tree.formula_of length) ByOne
@@ -254,7 +254,7 @@ fn put_fold_loop(
         (view_at (formula.Number 0) (view_in target.now)) (code_in block.old))))) }
 {
     let ty = &fold.accumulator;
-    let accumulator = plus(site.variable, let_variables(&fold.start)?)?;
+    let accumulator = site.variable.more(let_variables(&fold.start)?)?;
     let turn = fold_turn(alloc, site.scope, fold, element, accumulator)?;
     put_result(alloc, ty, accumulator, target, block)?;
     block.put_loop(Start::Zero, length, Stride::One, turn)?;
@@ -281,7 +281,7 @@ pub fn put_argument(
     requires { HasShortCopies (term_of term.now) }
     ensures { OnOk result (code_in block.new ≡ printer.print_argument (spell_in declared.now)
         (inputs_in declared.now) site.now.depth (scope_of site.now.scope.now) site.now.array
-        site.now.variable (term_of term.now) (code_in block.old)) }
+        (count_of site.now.variable) (term_of term.now) (code_in block.old)) }
 {
     match term {
         Term::Pair(a, b) | Term::Zip(a, b) => {
@@ -302,6 +302,8 @@ pub fn put_argument(
         | Term::Source(_)
         | Term::Apply(_, _, _)
         | Term::ApplyNumber(_, _, _)
+        | Term::ApplyLanes { .. }
+        | Term::DivideLanes(_, _, _)
         | Term::Select(_, _, _)
         | Term::LetElement(_, _, _)
         | Term::Map(_)
@@ -325,7 +327,7 @@ fn put_argument_let(
     requires body { HasShortCopies (term_of body.now) }
     ensures { OnOk result (code_in block.new ≡ printer.print_argument (spell_in declared.now)
         (inputs_in declared.now) site.now.depth (scope_of site.now.scope.now) site.now.array
-        site.now.variable (terms.LetArray (term_of value.now) (term_of body.now))
+        (count_of site.now.variable) (terms.LetArray (term_of value.now) (term_of body.now))
         (code_in block.old)) }
 {
     let bound = site.argument(alloc, declared, value)?;
@@ -349,19 +351,20 @@ fn map_turn(
     target: &View,
 ) -> Result<Block, AllocError>
     requires { HasShortCopies (term_of map.now.body) }
-    ensures { IfOk result (λ turn. let n = site.now.variable in
+    ensures { IfOk result (λ turn. let n = (count_of site.now.variable) in
         let loads = load_set_of map.now.loads in let bound = view_in element.now in
         code_in turn ≡ printer.print_loaded loads bound n
         (printer.print_written (spell_in declared.now) (inputs_in declared.now)
         (suc site.now.depth) (push (loaded_view loads bound n) (scope_of site.now.scope.now))
-        site.now.array (n + load_count loads) (term_of map.now.body) (view_in target.now) End)) }
+        site.now.array (more n (load_count loads)) (term_of map.now.body) (view_in target.now)
+        End)) }
 {
     let bound = loaded(alloc, &map.loads, element, site.variable)?;
     let inner = Site {
         depth: plus(site.depth, 1)?,
         scope: &Scope::Bound(&bound, site.scope),
         array: site.array,
-        variable: plus(site.variable, load_count(&map.loads)?)?,
+        variable: site.variable.more(load_count(&map.loads)?)?,
     };
     let mut turn = Block::new(alloc);
     put_written(alloc, declared, &inner, &map.body, target, &mut turn)?;
@@ -382,7 +385,7 @@ fn put_map(
     requires { HasShortCopies (map_of map.now) }
     ensures { OnOk result (code_in block.new ≡ printer.print_written (spell_in declared.now)
         (inputs_in declared.now) site.now.depth (scope_of site.now.scope.now) site.now.array
-        site.now.variable (map_of map.now) (view_in target.now) (code_in block.old)) }
+        (count_of site.now.variable) (map_of map.now) (view_in target.now) (code_in block.old)) }
 {
     let element = site.element(alloc, declared, &map.array)?;
     let target = at_turn(alloc, target, Turn::Loop(site.depth))?;
@@ -408,7 +411,7 @@ fn put_let_array(
     requires body { HasShortCopies (term_of body.now) }
     ensures { OnOk result (code_in block.new ≡ printer.print_written (spell_in declared.now)
         (inputs_in declared.now) site.now.depth (scope_of site.now.scope.now) site.now.array
-        site.now.variable (terms.LetArray (term_of value.now) (term_of body.now))
+        (count_of site.now.variable) (terms.LetArray (term_of value.now) (term_of body.now))
         (view_in target.now) (code_in block.old)) }
 {
     let bound = site.argument(alloc, declared, value)?;
@@ -436,16 +439,16 @@ fn put_let_element(
     requires { HasShortCopies (term_of body.now) }
     ensures { OnOk result (code_in block.new ≡ printer.print_written (spell_in declared.now)
         (inputs_in declared.now) site.now.depth (scope_of site.now.scope.now) site.now.array
-        site.now.variable (terms.LetElement (element_ty (ty_of ty.now)) (term_of value.now)
-        (term_of body.now)) (view_in target.now) (code_in block.old)) }
+        (count_of site.now.variable) (terms.LetElement (element_ty (ty_of ty.now))
+        (term_of value.now) (term_of body.now)) (view_in target.now) (code_in block.old)) }
 {
-    let variable = plus(site.variable, let_variables(value)?)?;
-    let bound = held(alloc, ty, variable)?;
+    let variable = site.variable.more(let_variables(value)?)?;
+    let bound = View::held(alloc, ty, variable)?;
     let inner = Site {
         depth: site.depth,
         scope: &Scope::Bound(&bound, site.scope),
         array: site.array,
-        variable: plus(variable, element_width(ty)?)?,
+        variable: variable.more(held_count(ty)?)?,
     };
     put_written(alloc, declared, &inner, body, target, block)?;
     put_bound(alloc, site.scope, site.variable, ty, value, variable, block)
@@ -464,11 +467,11 @@ fn put_fold(
     requires { HasShortCopies (fold_of fold.now) }
     ensures { OnOk result (code_in block.new ≡ printer.print_written (spell_in declared.now)
         (inputs_in declared.now) site.now.depth (scope_of site.now.scope.now) site.now.array
-        site.now.variable (fold_of fold.now) (view_in target.now) (code_in block.old)) }
+        (count_of site.now.variable) (fold_of fold.now) (view_in target.now) (code_in block.old)) }
 {
     let element = site.element(alloc, declared, &fold.array)?;
     let after = Site {
-        variable: plus(site.variable, variable_count(&fold.array)?)?,
+        variable: site.variable.more(variable_count(&fold.array)?)?,
         ..*site
     };
     let bound = spell_length(alloc, &fold.length, declared.names)?;
@@ -489,7 +492,7 @@ pub fn put_written(
     requires { HasShortCopies (term_of term.now) }
     ensures { OnOk result (code_in block.new ≡ printer.print_written (spell_in declared.now)
         (inputs_in declared.now) site.now.depth (scope_of site.now.scope.now) site.now.array
-        site.now.variable (term_of term.now) (view_in target.now) (code_in block.old)) }
+        (count_of site.now.variable) (term_of term.now) (view_in target.now) (code_in block.old)) }
 {
     match term {
         Term::Store(ty, a) => put_store(alloc, site, ty, a, target, block),
@@ -511,6 +514,8 @@ pub fn put_written(
         | Term::Source(_)
         | Term::Apply(_, _, _)
         | Term::ApplyNumber(_, _, _)
+        | Term::ApplyLanes { .. }
+        | Term::DivideLanes(_, _, _)
         | Term::Select(_, _, _)
         | Term::Pair(_, _)
         | Term::Zip(_, _)

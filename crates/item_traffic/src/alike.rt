@@ -163,6 +163,8 @@ impl Count<'_> {
             | Term::Source(_)
             | Term::Apply(_, _, _)
             | Term::ApplyNumber(_, _, _)
+            | Term::ApplyLanes { .. }
+            | Term::DivideLanes(_, _, _)
             | Term::Select(_, _, _)
             | Term::Store(_, _) => items_alike(self.launch, self.item, Kind::Sequential, 0),
         }

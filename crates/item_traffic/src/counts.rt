@@ -73,6 +73,7 @@ fn loads(access: Access, loaded: &LoadSet, part: &Part) -> u64
     match loaded {
         LoadSet::Skip => 0,
         LoadSet::Take => access.load(part.region(&Way::Whole)),
+        LoadSet::TakeFour => access.load(part.region(&Way::Whole)).saturating_mul(4),
         LoadSet::Each(first, second) => {
             let first = loads(access, first, &Part::First(&*part));
             first.saturating_add(loads(access, second, &Part::Second(&*part)))
@@ -87,6 +88,7 @@ fn stores(access: Access, ty: &Ty, to: Region) -> u64
 {
     match ty {
         Ty::Number | Ty::Array(_, _) => access.store(to),
+        Ty::Vector => access.store(to).saturating_mul(4),
         Ty::Pair(a, b) => {
             let first = stores(access, a, to);
             let second = stores(access, b, to);
@@ -146,6 +148,8 @@ impl Count<'_> {
             | Term::Source(_)
             | Term::Apply(_, _, _)
             | Term::ApplyNumber(_, _, _)
+            | Term::ApplyLanes { .. }
+            | Term::DivideLanes(_, _, _)
             | Term::Select(_, _, _)
             | Term::LetElement(_, _, _)
             | Term::Map(_)
@@ -233,6 +237,8 @@ impl Count<'_> {
             | Term::Source(_)
             | Term::Apply(_, _, _)
             | Term::ApplyNumber(_, _, _)
+            | Term::ApplyLanes { .. }
+            | Term::DivideLanes(_, _, _)
             | Term::Select(_, _, _)
             | Term::Pair(_, _)
             | Term::Zip(_, _)

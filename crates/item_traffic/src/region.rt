@@ -62,7 +62,7 @@ fn is_taken(loads: &LoadSet, way: &Way) -> bool
 {
     match loads {
         LoadSet::Skip => false,
-        LoadSet::Take => true,
+        LoadSet::Take | LoadSet::TakeFour => true,
         LoadSet::Each(first, second) => match way {
             Way::Whole => true,
             Way::Side(is_second, rest) => {
@@ -140,6 +140,8 @@ pub fn seek(scope: &Scope, term: &Term, way: &Way) -> Region
         Term::Literal(_)
         | Term::Apply(_, _, _)
         | Term::ApplyNumber(_, _, _)
+        | Term::ApplyLanes { .. }
+        | Term::DivideLanes(_, _, _)
         | Term::Select(_, _, _)
         | Term::LetElement(_, _, _)
         | Term::Map(_)

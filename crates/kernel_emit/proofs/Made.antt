@@ -27,9 +27,9 @@ use Rattle.kernel_tree.specs.declared.tree.Stmt.{Stmt}
 use Rattle.kernel_tree.specs.Code.{Code, End, Kernel}
 use Rattle.kernel_tree.specs.Tree.{code_then, kernel_with}
 
-pub kernel_is : (k : Kernel) (inputs outputs sizes variables : ℕ) (locals privates : List ℕ) (body : List Stmt) (local : Option (ℕ × ℕ)) → inputs ≡ k.inputs → outputs ≡ k.outputs → sizes ≡ k.sizes → locals ≡ k.locals → privates ≡ k.privates → variables ≡ k.variables → code_then body End ≡ k.code
-    → 0 ≡ k.vectors → local ≡ k.local → kernel_with inputs outputs sizes locals privates variables 0 local body ≡ k
-kernel_is k i o s v ls ps body local ei eo es el ep ev ec ef eg = rw (ei, eo, es, el, ep, ev, ec, ef, eg) refl
+pub kernel_is : (k : Kernel) (inputs outputs sizes variables vectors : ℕ) (locals privates : List ℕ) (body : List Stmt) (local : Option (ℕ × ℕ)) → inputs ≡ k.inputs → outputs ≡ k.outputs → sizes ≡ k.sizes → locals ≡ k.locals → privates ≡ k.privates → variables ≡ k.variables → code_then body End ≡ k.code
+    → vectors ≡ k.vectors → local ≡ k.local → kernel_with inputs outputs sizes locals privates variables vectors local body ≡ k
+kernel_is k i o s v f ls ps body local ei eo es el ep ev ec ef eg = rw (ei, eo, es, el, ep, ev, ec, ef, eg) refl
 
 -- the code of a term that items run, and of one that work-groups or rows of them run, as the plan's
 -- kind says

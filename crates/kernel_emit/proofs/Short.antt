@@ -5,7 +5,7 @@ use Rattle.std.proofs.Math.Bool.{Bool-set}
 use Rattle.kernel_tree.specs.Code.{Kernel}
 use Rattle.kernel_tree.specs.Grammar.{is_kernel}
 use Rattle.lift_ir.specs.Types.{IsShort, Ty, Scalar, PairOf, ArrayOf}
-use Rattle.lift_ir.specs.Terms.{Term, Literal, Bound, Source, Apply, ApplyNumber, Select, Both, Project, Reshape, LetArray, LetElement, Map, Fold, Store, Copy}
+use Rattle.lift_ir.specs.Terms.{Term, Literal, Bound, Source, Apply, ApplyNumber, ApplyLanes, DivideLanes, Select, Both, Project, Reshape, LetArray, LetElement, Map, Fold, Store, Copy}
 use Rattle.item_emit.specs.Copies.{HasShortCopies, IsShortCopy}
 
 short_once : (ty : Ty) → IsProp (IsShort ty)
@@ -25,6 +25,8 @@ copies_once (Bound v) = Unit-prop
 copies_once (Source v) = Unit-prop
 copies_once (Apply o a b) = Unit-prop
 copies_once (ApplyNumber o n a) = Unit-prop
+copies_once (ApplyLanes o l r a b) = Unit-prop
+copies_once (DivideLanes o n a) = Unit-prop
 copies_once (Select c a b) = Unit-prop
 copies_once (Both zips a b) = ×_prop (copies_once a) (copies_once b)
 copies_once (Project second a) = copies_once a

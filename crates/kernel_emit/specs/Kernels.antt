@@ -49,9 +49,10 @@ ServesTerm d local t n k =
     → IsLaunchOf d (asks_of local t) w.bases t n l → AreBuffersOf d w t n c
     → (filler : Cell → ℕ) × BarriersServeAll k l c filler
 
--- no part of an index or of a bound is redundant, an index of a load or a store has no more nodes
--- than the formulas of its array and of the term's layouts put into one another, and a bound no
--- more than its length, with lengths counted in short
+-- no part of an index, of an offset of four or of a bound is redundant, an index of a load or a
+-- store has no more nodes than the formulas of its array and of the term's layouts put into one
+-- another, an offset no more than the index of its vector or of the first scalar by 4, and a bound
+-- no more than its length, with lengths counted in short
 abbrev pub IsTidy : Declared → (local : Option (ℕ × ℕ)) → Tree → Annotation → Kernel → Type 0
 IsTidy = IsTidyFor
 

@@ -52,8 +52,8 @@ printed_with d local n locals privates root kind = record {
   sizes = length d.names;
   locals = locals;
   privates = privates;
-  variables = variable_count root;
-  vectors = 0;
+  variables = (variable_count root).words;
+  vectors = (variable_count root).fours;
   local = local;
   code = code_for d local root (type_in n) kind;
 }

@@ -84,8 +84,8 @@ fn words(alloc: Global, lengths: &[u64]) -> Result<Vec<u32>, AllocError>
 }
 
 /// The kernel that is printed for a plan: for each component of each input a parameter, then for
-/// each of the output and for each size; private variables as the term needs them, the plan's
-/// arrays, the local size that is fixed, and the code as its kind says.
+/// each of the output and for each size; private variables of a word and of four as the term needs
+/// them, the plan's arrays, the local size that is fixed, and the code as its kind says.
 pub fn printed(alloc: Global, plan: &Plan<'_>) -> Result<Kernel, AllocError>
     requires { IsEmittable plan.now }
     ensures { IfOk result (λ k. kernel_of k ≡ printed_for plan.now) }
@@ -101,7 +101,7 @@ pub fn printed(alloc: Global, plan: &Plan<'_>) -> Result<Kernel, AllocError>
         locals,
         privates,
         variables: counts.variables,
-        vectors: 0,
+        vectors: counts.vectors,
         local: plan.spaced.mapped.local,
         body,
     })

@@ -27,11 +27,13 @@ same_length (negsuc m) h = absurd (omega arith)
 
 same_scalars : (a : PlainTy) → AllLengths (λ n. n < 2 ^ 32) (ty_at [] a) → scalars [] a ≡ size (ty_at [] a)
 same_scalars types.U32 h = refl
+same_scalars types.U32x4 h = refl
 same_scalars (types.PairOf a b) h = refl
 same_scalars (types.ArrayOf a n) h = ap (λ z. z * scalars [] a) (same_length (value_at [] n) h.0) ∙ ap (λ z. natural (value_at [] n) * z) (same_scalars a h.1)
 
 same_width : (a : PlainTy) → width a ≡ ir.width (ty_at [] a)
 same_width types.U32 = refl
+same_width types.U32x4 = refl
 same_width (types.PairOf a b) = ap (λ z. z + width b) (same_width a) ∙ ap (λ z. ir.width (ty_at [] a) + z) (same_width b)
 same_width (types.ArrayOf a n) = same_width a
 

@@ -6,15 +6,17 @@ use Rattle.kernel_tree.specs.declared.tree.Dimension.TheVariants.{X}
 use Rattle.kernel_tree.specs.Formula.{Formula}
 use Rattle.kernel_tree.specs.Code.{Local as LocalArray, FromGroupId, FromLocalId, ByGroupCount, ByLocalSize, Code, End, Kernel}
 use Rattle.barrier_placement.specs.Fencing.{Fencing}
+use Rattle.lift_ir.specs.Fours.{Lie, Loose, Whole, element_lie, bound_lie, written_lie, ReadsFours, WritesFours}
 use Rattle.lift_ir.specs.Terms.{LoadSet, WorkGroup, Local, LocalMemory, PrivateMemory, Term, Bound, Source, Both, Project, Reshape, LetArray, Map, Copy, push}
 use Rattle.printed_form.specs.Arguments.{argument_view, private_arrays, local_arrays}
-use Rattle.printed_form.specs.Counts.{load_count, variable_count, private_count, local_count}
+use Rattle.printed_form.specs.Counts.{Count, AtMost, more, no_variables, load_count, variable_count, private_count, local_count}
 use Rattle.printed_form.specs.MapForms.{MapForm, Looped, Guarded, Alone, MapForms, form_over_groups, statement_over_groups}
-use Rattle.printed_form.specs.Views.{View, result_indices, laid_view}
-use Rattle.printed_form.specs.Sound.{stacked, IsReadWithin, IsWrittenWithin, loop_depth, AreLow, CanBeWritten, CanBeRead}
-use Rattle.printed_form.specs.GrammarViews.{FillsWithin, AllReadWithin}
+use Rattle.printed_form.specs.Views.{View, rewritten_view, laid_view}
+use Rattle.printed_form.specs.Sound.{variables_of, stacked, IsReadWithin, IsWrittenWithin, loop_depth, AreLow, CanBeWritten, CanBeRead}
+use Rattle.printed_form.specs.GrammarViews.{FillsWithin}
 use Rattle.printed_form.specs.KernelGrammar.{IsSoundIn}
 use Rattle.printed_form.specs.GrammarPieces.{views_of_inputs, CanBePrinted}
+use Rattle.printed_form.proofs.Runs.{at_most}
 use Rattle.group_phases.specs.Strides.{statement_of}
 use Rattle.group_form.specs.Form.{Used, used_after}
 use Rattle.group_form.specs.Forms.{StandsInGroup, StandsOverGroups}
@@ -23,7 +25,7 @@ use Rattle.group_form.specs.Printer.{turn_formula, depth_in, print_turns, fenced
 use Rattle.group_form.specs.Uses.{phases_in, phase_count}
 use Rattle.kernel_premises.specs.GroupGrammar.{IsFlagged}
 use Rattle.kernel_premises.proofs.MapCodes as maps
-use Rattle.kernel_premises.proofs.MapCodes.{Pieces, Right, Comes, fence_fine, fence_kept, laid_target, pushed}
+use Rattle.kernel_premises.proofs.MapCodes.{Pieces, Right, Comes, Fills, Views, fence_fine, fence_kept, filled, laid_target, viewed_too, with_view}
 
 -- how many local arrays a map over groups has
 abbrev pub locals_of : {A : Type 0} → Term A → ℕ
@@ -59,48 +61,42 @@ module _ (k : Kernel) (spell : List Monomial → Formula) (forms : MapForms (Lis
   abbrev Sound : Term A → Type 0
   Sound t = IsSoundIn k spell S d t
 
-  abbrev Fills : ℕ → ℕ → View → Type 0
-  Fills l h w = FillsWithin k S l h w
-
-  abbrev Views : ℕ → (ℕ → ℕ) → (ℕ → View) → Type 0
-  Views l g env = AllReadWithin k S l g env
-
   abbrev viewed : (ℕ → View) → ℕ → Term A → View
   viewed env K t = argument_view local_arrays spell ins env K t
 
   -- a term in writing position, so deep in loops and ifs
-  abbrev Can : (depth W n a : ℕ) → (ℕ → ℕ) → Term A → Type 0
-  Can depth W n a g t = CanBePrinted k spell S M d g depth W n a t
+  abbrev Can : (depth W : ℕ) → Count → (a : ℕ) → (ℕ → ℕ) → (ℕ → Lie) → Lie → Term A → Type 0
+  Can depth W n a g lies to_lie t = CanBePrinted k spell S M d g lies to_lie depth W n a t
 
   -- ---- a local map, in so many loops and ifs
-  module _ (L I : ℕ) (m : A) (ls : LoadSet) (x : View) (h : ℕ) (u : Used) (g : ℕ → ℕ) (env : ℕ → View) (w : View) (W : ℕ) (b : Term A) where
+  module _ (L I : ℕ) (m : A) (ls : LoadSet) (x : View) (h : ℕ) (u : Used) (g : ℕ → ℕ) (env : ℕ → View) (w : View) (W : ℕ) (lies : ℕ → Lie) (from to_lie : Lie) (b : Term A) where
     abbrev element : (depth : ℕ) (env : ℕ → View) (w : View) (last : Code) → Code
-    element = maps.print_element k spell S M d known Local L I (spell m) ls x h u.variables u.privates g env w W b
+    element = maps.print_element k spell S M d known Local L I (spell m) ls x h u.variables u.privates g env w W lies from to_lie b
 
     abbrev InTurn : ℕ → Type 0
-    InTurn D = Can D W (u.variables + load_count ls) u.privates (push h g) b
+    InTurn D = Can D W (more u.variables (load_count ls)) u.privates (push h g) (push (bound_lie ls (element_lie from)) lies) (element_lie to_lie) b
 
     abbrev print_local : Code → Code
     print_local rest = print_local_map spell forms ins fence L env u m ls x b w rest
 
-    shown : (rest : Code) → maps.print_map k spell S M d known Local L I (spell m) ls x h u.variables g env w W element (forms.local m) rest ≡ print_local rest
-    shown rest = same_turns (forms.local m) L (spell m) (maps.print_turn k spell S M d known Local L I (spell m) ls x h u.variables g env w W element) rest
+    shown : (rest : Code) → maps.print_map k spell S M d known Local L I (spell m) ls x h u.variables g env w W lies from to_lie element (forms.local m) rest ≡ print_local rest
+    shown rest = same_turns (forms.local m) L (spell m) (maps.print_turn k spell S M d known Local L I (spell m) ls x h u.variables g env w W lies from to_lie element) rest
 
     local_kept : (rest : Code) → Comes rest → Comes (print_local rest)
     local_kept rest r =
         subst Comes (shown rest)
-        (maps.map_kept k spell S M d known Local L I (spell m) ls x h u.variables g env w W element (maps.element_kept k spell S M d known Local L I (spell m) ls x h u.variables u.privates g env w W b) (forms.local m) rest r)
+        (maps.map_kept k spell S M d known Local L I (spell m) ls x h u.variables g env w W lies from to_lie element (maps.element_kept k spell S M d known Local L I (spell m) ls x h u.variables u.privates g env w W lies from to_lie b) (forms.local m) rest r)
 
-    local_comes : (D : ℕ) (rest : Code) → Fills L W w → InTurn D → Comes (print_local rest)
+    local_comes : (D : ℕ) (rest : Code) → FillsWithin k S L W w → InTurn D → Comes (print_local rest)
     local_comes D rest tg can =
         subst Comes (shown rest)
-        (maps.map_comes k spell S M d known Local L I (spell m) ls x h u.variables g env w W element tg (maps.element_comes k spell S M d known Local L I (spell m) ls x h u.variables u.privates g env w W b D can) (forms.local m) rest)
+        (maps.map_comes k spell S M d known Local L I (spell m) ls x h u.variables g env w W lies from to_lie element tg (maps.element_comes k spell S M d known Local L I (spell m) ls x h u.variables u.privates g env w W lies from to_lie b D can) (forms.local m) rest)
 
-    local_fine : (rest : Code) → Fills L W w → InTurn (suc (I + L)) → maps.HasRoom k spell S M d known Local L I (spell m) ls x h u.variables g env w W element → Right k L I rest → Right k L I (print_local rest)
+    local_fine : (rest : Code) → Fills k S L W to_lie w → InTurn (suc (I + L)) → maps.HasRoom k spell S M d known Local L I (spell m) ls x h u.variables g env w W lies from to_lie element → Right k L I rest → Right k L I (print_local rest)
     local_fine rest tg can has f =
         subst (Right k L I) (shown rest)
-        (maps.map_fine k spell S M d known Local L I (spell m) ls x h u.variables g env w W element tg (maps.element_comes k spell S M d known Local L I (spell m) ls x h u.variables u.privates g env w W b (suc (I + L)) can) has
-        (maps.element_fine k spell S M d known Local L I (spell m) ls x h u.variables u.privates g env w W b can) (forms.local m) rest f)
+        (maps.map_fine k spell S M d known Local L I (spell m) ls x h u.variables g env w W lies from to_lie element tg.0 (maps.element_comes k spell S M d known Local L I (spell m) ls x h u.variables u.privates g env w W lies from to_lie b (suc (I + L)) can) has
+        (maps.element_fine k spell S M d known Local L I (spell m) ls x h u.variables u.privates g env w W lies from to_lie b can) (forms.local m) rest f)
 
   -- ---- a turn of the map over groups, in so many loops and ifs
   module _ (L I : ℕ) where
@@ -122,91 +118,103 @@ module _ (k : Kernel) (spell : List Monomial → Formula) (forms : MapForms (Lis
       argument_kept env u _ rest r = r
 
       written_kept : (env : ℕ → View) (u : Used) (t : Term A) (w : View) (rest : Code) → Comes rest → Comes (print_to env u t w rest)
-      written_kept env u (Reshape y x) w rest r = written_kept env u x (λ cs is. w cs (result_indices spell y is)) rest r
+      written_kept env u (Reshape y x) w rest r = written_kept env u x (rewritten_view spell y w) rest r
       written_kept env u (LetArray v b) w rest r =
           argument_kept env u v (print_to (push (viewed env u.locals v) env) (used_after u v) b w rest) (written_kept (push (viewed env u.locals v) env) (used_after u v) b w rest r)
       written_kept env u (Map kind n loads xs b) w rest r =
           let x = viewed env u.locals xs in
           let v = used_after u xs in
-          let map = print_local L I n loads x 0 v (λ i. 0) env w 0 b rest in
+          let map = print_local L I n loads x 0 v (λ i. 0) env w 0 (λ i. Loose) Loose Loose b rest in
           argument_kept env u xs (fenced (fence (u.phases + phases_in xs)) map)
-          (fence_kept (fence (u.phases + phases_in xs)) map (local_kept L I n loads x 0 v (λ i. 0) env w 0 b rest r))
+          (fence_kept (fence (u.phases + phases_in xs)) map (local_kept L I n loads x 0 v (λ i. 0) env w 0 (λ i. Loose) Loose Loose b rest r))
       written_kept env u _ w rest r = r
 
-    written_comes : (D : ℕ) (g : ℕ → ℕ) (env : ℕ → View) (u : Used) (t : Term A) (w : View) (W : ℕ) (rest : Code) → Fills L W w → StandsInGroup true t → CanBeWritten t → Sound t → IsWrittenWithin M g W t → AreLow 1024 t → D + loop_depth t ≤ 1024
-        → u.variables + variable_count t ≤ k.variables → u.privates + private_count t ≤ length k.privates → Comes (print_to env u t w rest)
-    written_comes D g env u (Reshape y x) w W rest tg st can s most high deep vars priv =
-        written_comes D g env u x (λ cs is. w cs (result_indices spell y is)) (suc W) rest (known.views.result spell y L W w s.0 tg) st.1 can.1 s.1 most high deep vars priv
-    written_comes D g env u (LetArray v b) w W rest tg st can s most high deep vars priv =
+    written_comes : (D : ℕ) (g : ℕ → ℕ) (lies : ℕ → Lie) (to_lie : Lie) (env : ℕ → View) (u : Used) (t : Term A) (w : View) (W : ℕ) (rest : Code) → FillsWithin k S L W w → StandsInGroup true t → CanBeWritten t → Sound t → IsWrittenWithin M g W t → AreLow 1023 t → WritesFours lies to_lie t → D + loop_depth t ≤ 1024
+        → AtMost (more u.variables (variable_count t)) (variables_of k) → u.privates + private_count t ≤ length k.privates → Comes (print_to env u t w rest)
+    written_comes D g lies to_lie env u (Reshape y x) w W rest tg st can s most high fours deep vars priv =
+        written_comes D g lies (written_lie y fours.0) env u x (rewritten_view spell y w) (suc W) rest (known.views.result spell y L W w s.0 tg) st.1 can.1 s.1 most high fours.2 deep vars priv
+    written_comes D g lies to_lie env u (LetArray v b) w W rest tg st can s most high fours deep vars priv =
         argument_kept env u v (print_to (push (viewed env u.locals v) env) (used_after u v) b w rest)
-        (written_comes D (push (stacked g v) g) (push (viewed env u.locals v) env) (used_after u v) b w W rest tg st.1 can.1 s.1 most.1 high.1 (omega arith) (omega arith) (omega arith))
-    written_comes D g env u (Map Local m ls xs b) w W rest tg st can s most high deep vars priv =
+        (written_comes D (push (stacked g v) g) (push fours.0 lies) to_lie (push (viewed env u.locals v) env) (used_after u v) b w W rest tg st.1 can.1 s.1 most.1 high.1 fours.3 (omega arith) (at_most (omega arith) (omega arith)) (omega arith))
+    written_comes D g lies to_lie env u (Map Local m ls xs b) w W rest tg st can s most high fours deep vars priv =
         let x = viewed env u.locals xs in
         let v = used_after u xs in
-        let map = print_local L I m ls x (stacked g xs) v g env w W b rest in
+        let map = print_local L I m ls x (stacked g xs) v g env w W lies fours.0 to_lie b rest in
         argument_kept env u xs (fenced (fence (u.phases + phases_in xs)) map)
         (fence_kept (fence (u.phases + phases_in xs)) map
-        (local_comes L I m ls x (stacked g xs) v g env w W b D rest tg (record { written = can.1; sound = s.2; layouts = most.2; low = high.1; deep = omega arith; variables = omega arith; privates = omega arith })))
-    written_comes D g env u _ w W rest tg st can s most high deep vars priv = absurd st
+        (local_comes L I m ls x (stacked g xs) v g env w W lies fours.0 to_lie b D rest tg (record { written = can.1; sound = s.2; layouts = most.2; low = high.1; fours = fours.4; deep = omega arith; variables = at_most (omega arith) (omega arith); privates = omega arith })))
+    written_comes D g lies to_lie env u _ w W rest tg st can s most high fours deep vars priv = absurd st
 
     -- all of it is of the grammar
     mutual
-      argument_fine : (g : ℕ → ℕ) (env : ℕ → View) (u : Used) (t : Term A) (rest : Code) → Views L g env → StandsInGroup false t → CanBeRead t → Sound t → IsReadWithin M g t → AreLow 1024 t → I + L + loop_depth t ≤ 1024
-          → u.variables + variable_count t ≤ k.variables → u.privates + private_count t ≤ length k.privates → u.locals + local_count t ≤ length k.locals → u.phases + phases_in t ≤ N → Right k L I rest → Right k L I (print_argument env u t rest)
-      argument_fine g env u (Bound v) rest all st can s most high deep vars priv locs phs f = f
-      argument_fine g env u (Source v) rest all st can s most high deep vars priv locs phs f = f
-      argument_fine g env u (Both true x y) rest all st can s most high deep vars priv locs phs f =
-          argument_fine g env u x (print_argument env (used_after u x) y rest) all st.0 can.0 s.0 most.0 high.0 (omega arith) (omega arith) (omega arith) (omega arith) (omega arith)
-          (argument_fine g env (used_after u x) y rest all st.1 can.1 s.1 most.1 high.1 (omega arith) (omega arith) (omega arith) (omega arith) (omega arith) f)
-      argument_fine g env u (Project c x) rest all st can s most high deep vars priv locs phs f = argument_fine g env u x rest all st can s most high deep vars priv locs phs f
-      argument_fine g env u (Reshape y x) rest all st can s most high deep vars priv locs phs f = argument_fine g env u x rest all st can s.1 most.1 high deep vars priv locs phs f
-      argument_fine g env u (LetArray v b) rest all st can s most high deep vars priv locs phs f =
-          argument_fine g env u v (print_argument (push (viewed env u.locals v) env) (used_after u v) b rest) all st.0 can.0 s.0 most.0 high.0 (omega arith) (omega arith) (omega arith) (omega arith) (omega arith)
-          (argument_fine (push (stacked g v) g) (push (viewed env u.locals v) env) (used_after u v) b rest
-          (pushed k spell S M d known L g env (stacked g v) (viewed env u.locals v) (known.terms.arguments LocalMemory L u.locals g env v all s.0 (omega arith)) all) st.1 can.1 s.1 most.1 high.1 (omega arith) (omega arith) (omega arith) (omega arith) (omega arith) f)
-      argument_fine g env u (Copy LocalMemory ty x) rest all st can s most high deep vars priv locs phs f =
-          written_fine g env u x (laid_view LocalArray (u.locals + local_count x) ty) 0 rest all (laid_target k spell S M d known (u.locals + local_count x) ty L (omega arith) s.0 s.1) st can s.2 most high deep vars priv (omega arith) phs f
-      argument_fine g env u _ rest all st can s most high deep vars priv locs phs f = absurd st
+      argument_fine : (g : ℕ → ℕ) (lies : ℕ → Lie) (env : ℕ → View) (u : Used) (t : Term A) (rest : Code) → Views k S L g lies env → StandsInGroup false t → CanBeRead t → Sound t → IsReadWithin M g t → AreLow 1023 t → ReadsFours lies t → I + L + loop_depth t ≤ 1024
+          → AtMost (more u.variables (variable_count t)) (variables_of k) → u.privates + private_count t ≤ length k.privates → u.locals + local_count t ≤ length k.locals → u.phases + phases_in t ≤ N → Right k L I rest → Right k L I (print_argument env u t rest)
+      argument_fine g lies env u (Bound v) rest all st can s most high fours deep vars priv locs phs f = f
+      argument_fine g lies env u (Source v) rest all st can s most high fours deep vars priv locs phs f = f
+      argument_fine g lies env u (Both true x y) rest all st can s most high fours deep vars priv locs phs f =
+          argument_fine g lies env u x (print_argument env (used_after u x) y rest) all st.0 can.0 s.0 most.0 high.0 fours.0 (omega arith) (at_most (omega arith) (omega arith)) (omega arith) (omega arith) (omega arith)
+          (argument_fine g lies env (used_after u x) y rest all st.1 can.1 s.1 most.1 high.1 fours.1 (omega arith) (at_most (omega arith) (omega arith)) (omega arith) (omega arith) (omega arith) f)
+      argument_fine g lies env u (Project c x) rest all st can s most high fours deep vars priv locs phs f = argument_fine g lies env u x rest all st can s most high fours deep vars priv locs phs f
+      argument_fine g lies env u (Reshape y x) rest all st can s most high fours deep vars priv locs phs f = argument_fine g lies env u x rest all st can s.1 most.1 high fours deep vars priv locs phs f
+      argument_fine g lies env u (LetArray v b) rest all st can s most high fours deep vars priv locs phs f =
+          argument_fine g lies env u v (print_argument (push (viewed env u.locals v) env) (used_after u v) b rest) all st.0 can.0 s.0 most.0 high.0 fours.2 (omega arith) (at_most (omega arith) (omega arith)) (omega arith) (omega arith) (omega arith)
+          (argument_fine (push (stacked g v) g) (push fours.0 lies) (push (viewed env u.locals v) env) (used_after u v) b rest
+          (viewed_too k spell S M d known L u.locals g lies env v fours.0 all s.0 (omega arith) fours.1) st.1 can.1 s.1 most.1 high.1 fours.3 (omega arith) (at_most (omega arith) (omega arith)) (omega arith) (omega arith) (omega arith) f)
+      argument_fine g lies env u (Copy LocalMemory ty x) rest all st can s most high fours deep vars priv locs phs f =
+          written_fine g lies Whole env u x (laid_view LocalArray (u.locals + local_count x) ty) 0 rest all (laid_target k spell S M d known (u.locals + local_count x) ty L (omega arith) s.0 s.1) st can s.2 most high fours deep vars priv (omega arith) phs f
+      argument_fine g lies env u _ rest all st can s most high fours deep vars priv locs phs f = absurd st
 
-      written_fine : (g : ℕ → ℕ) (env : ℕ → View) (u : Used) (t : Term A) (w : View) (W : ℕ) (rest : Code) → Views L g env → Fills L W w → StandsInGroup true t → CanBeWritten t → Sound t → IsWrittenWithin M g W t → AreLow 1024 t → I + L + loop_depth t ≤ 1024
-          → u.variables + variable_count t ≤ k.variables → u.privates + private_count t ≤ length k.privates → u.locals + local_count t ≤ length k.locals → u.phases + phases_in t ≤ N → Right k L I rest → Right k L I (print_to env u t w rest)
-      written_fine g env u (Reshape y x) w W rest all tg st can s most high deep vars priv locs phs f =
-          written_fine g env u x (λ cs is. w cs (result_indices spell y is)) (suc W) rest all
-          (known.views.result spell y L W w s.0 tg) st.1 can.1 s.1 most high deep vars priv locs phs f
-      written_fine g env u (LetArray v b) w W rest all tg st can s most high deep vars priv locs phs f =
-          argument_fine g env u v (print_to (push (viewed env u.locals v) env) (used_after u v) b w rest) all st.0 can.0 s.0 most.0 high.0 (omega arith) (omega arith) (omega arith) (omega arith) (omega arith)
-          (written_fine (push (stacked g v) g) (push (viewed env u.locals v) env) (used_after u v) b w W rest
-          (pushed k spell S M d known L g env (stacked g v) (viewed env u.locals v) (known.terms.arguments LocalMemory L u.locals g env v all s.0 (omega arith)) all) tg st.1 can.1 s.1 most.1 high.1 (omega arith) (omega arith) (omega arith) (omega arith) (omega arith) f)
-      written_fine g env u (Map Local m ls xs b) w W rest all tg st can s most high deep vars priv locs phs f =
+      written_fine : (g : ℕ → ℕ) (lies : ℕ → Lie) (to_lie : Lie) (env : ℕ → View) (u : Used) (t : Term A) (w : View) (W : ℕ) (rest : Code) → Views k S L g lies env → Fills k S L W to_lie w → StandsInGroup true t → CanBeWritten t → Sound t → IsWrittenWithin M g W t → AreLow 1023 t → WritesFours lies to_lie t → I + L + loop_depth t ≤ 1024
+          → AtMost (more u.variables (variable_count t)) (variables_of k) → u.privates + private_count t ≤ length k.privates → u.locals + local_count t ≤ length k.locals → u.phases + phases_in t ≤ N → Right k L I rest → Right k L I (print_to env u t w rest)
+      written_fine g lies to_lie env u (Reshape y x) w W rest all tg st can s most high fours deep vars priv locs phs f =
+          written_fine g lies (written_lie y fours.0) env u x (rewritten_view spell y w) (suc W) rest all
+          (filled k spell S M d known L W y to_lie fours.0 w s.0 fours.1 tg) st.1 can.1 s.1 most high fours.2 deep vars priv locs phs f
+      written_fine g lies to_lie env u (LetArray v b) w W rest all tg st can s most high fours deep vars priv locs phs f =
+          argument_fine g lies env u v (print_to (push (viewed env u.locals v) env) (used_after u v) b w rest) all st.0 can.0 s.0 most.0 high.0 fours.2 (omega arith) (at_most (omega arith) (omega arith)) (omega arith) (omega arith) (omega arith)
+          (written_fine (push (stacked g v) g) (push fours.0 lies) to_lie (push (viewed env u.locals v) env) (used_after u v) b w W rest
+          (viewed_too k spell S M d known L u.locals g lies env v fours.0 all s.0 (omega arith) fours.1) tg st.1 can.1 s.1 most.1 high.1 fours.3 (omega arith) (at_most (omega arith) (omega arith)) (omega arith) (omega arith) (omega arith) f)
+      written_fine g lies to_lie env u (Map Local m ls xs b) w W rest all tg st can s most high fours deep vars priv locs phs f =
           let x = viewed env u.locals xs in
           let v = used_after u xs in
-          let map = print_local L I m ls x (stacked g xs) v g env w W b rest in
-          let fits : S + (8 + 3 * stacked g xs) ≤ 1024 = (let e = most.0 in let f = known.room.fits in omega arith) in
-          argument_fine g env u xs (fenced (fence (u.phases + phases_in xs)) map) all st.0 can.0 s.1 most.1 high.0 (omega arith) (omega arith) (omega arith) (omega arith) (omega arith)
+          let map = print_local L I m ls x (stacked g xs) v g env w W lies fours.0 to_lie b rest in
+          let fits : S + (10 + 3 * stacked g xs) ≤ 1024 = (let e = most.0 in let f = known.room.fits in omega arith) in
+          argument_fine g lies env u xs (fenced (fence (u.phases + phases_in xs)) map) all st.0 can.0 s.1 most.1 high.0 fours.2 (omega arith) (at_most (omega arith) (omega arith)) (omega arith) (omega arith) (omega arith)
           (fence_fine k fence N flagged L I (u.phases + phases_in xs) map (omega arith)
-          (local_fine L I m ls x (stacked g xs) v g env w W b rest tg (record { written = can.1; sound = s.2; layouts = most.2; low = high.1; deep = omega arith; variables = omega arith; privates = omega arith })
-          (record { deep = omega arith; spelled = s.0; fits = fits; variables = omega arith; array = known.terms.arguments LocalMemory L u.locals g env xs all s.1 (omega arith); binders = all }) f))
-      written_fine g env u _ w W rest all tg st can s most high deep vars priv locs phs f = absurd st
+          (local_fine L I m ls x (stacked g xs) v g env w W lies fours.0 to_lie b rest tg (record { written = can.1; sound = s.2; layouts = most.2; low = high.1; fours = fours.4; deep = omega arith; variables = at_most (omega arith) (omega arith); privates = omega arith })
+          (record {
+            deep = omega arith;
+            spelled = s.0;
+            fits = fits;
+            variables = at_most (omega arith) (omega arith);
+            array = known.terms.arguments LocalMemory L u.locals g env xs all.0 s.1 (omega arith);
+            binders = all.0;
+            array_lies = known.terms.lying LocalMemory u.locals lies env xs fours.0 all.1 fours.1;
+            fours = fours.3;
+            binders_lie = all.1;
+            place_lies = tg.1;
+          }) f))
+      written_fine g lies to_lie env u _ w W rest all tg st can s most high fours deep vars priv locs phs f = absurd st
 
   -- ---- a map over groups
   pub groups_come : (env : ℕ → View) (t : Term A) (w : View) → StandsOverGroups t → Comes (print_groups spell forms ins fence env t w)
-  groups_come env (Reshape y t) w st = groups_come env t (λ cs is. w cs (result_indices spell y is)) st.1
+  groups_come env (Reshape y t) w st = groups_come env t (rewritten_view spell y w) st.1
   groups_come env (LetArray v b) w st = groups_come (push (argument_view private_arrays spell ins env 0 v) env) b w st.1
   groups_come env (Map WorkGroup m ls xs b) w st = statement_comes (forms.once m) (spell m) _
   groups_come env _ w st = absurd st
 
-  pub groups_fine : (g : ℕ → ℕ) (env : ℕ → View) (t : Term A) (w : View) (W : ℕ) → Views 0 g env → Fills 0 W w → StandsOverGroups t → Can 0 W 0 0 g t → locals_of t ≤ length k.locals → phase_count t ≤ N → Right k 0 0 (print_groups spell forms ins fence env t w)
-  groups_fine g env (Reshape y t) w W all tg st can locs phs =
-      groups_fine g env t (λ cs is. w cs (result_indices spell y is)) (suc W) all (known.views.result spell y 0 W w can.sound.0 tg) st.1
-      (record { written = can.written.1; sound = can.sound.1; layouts = can.layouts; low = can.low; deep = can.deep; variables = can.variables; privates = can.privates }) locs phs
-  groups_fine g env (LetArray v b) w W all tg st can locs phs =
+  pub groups_fine : (g : ℕ → ℕ) (lies : ℕ → Lie) (to_lie : Lie) (env : ℕ → View) (t : Term A) (w : View) (W : ℕ) → Views k S 0 g lies env → Fills k S 0 W to_lie w → StandsOverGroups t → Can 0 W no_variables 0 g lies to_lie t → locals_of t ≤ length k.locals → phase_count t ≤ N → Right k 0 0 (print_groups spell forms ins fence env t w)
+  groups_fine g lies to_lie env (Reshape y t) w W all tg st can locs phs =
+      groups_fine g lies (written_lie y can.fours.0) env t (rewritten_view spell y w) (suc W) all (filled k spell S M d known 0 W y to_lie can.fours.0 w can.sound.0 can.fours.1 tg) st.1
+      (record { written = can.written.1; sound = can.sound.1; layouts = can.layouts; low = can.low; fours = can.fours.2; deep = can.deep; variables = can.variables; privates = can.privates }) locs phs
+  groups_fine g lies to_lie env (LetArray v b) w W all tg st can locs phs =
       let x = argument_view private_arrays spell ins env 0 v in
       let deep = can.deep in
       let vars = can.variables in
       let priv = can.privates in
-      groups_fine (push (stacked g v) g) (push x env) b w W (pushed k spell S M d known 0 g env (stacked g v) x (known.terms.arguments PrivateMemory 0 0 g env v all can.sound.0 (omega arith)) all) tg st.1
-      (record { written = can.written.1; sound = can.sound.1; layouts = can.layouts.1; low = can.low.1; deep = omega arith; variables = omega arith; privates = omega arith }) locs phs
-  groups_fine g env (Map WorkGroup m ls xs b) w W all tg st can locs phs =
+      groups_fine (push (stacked g v) g) (push can.fours.0 lies) to_lie (push x env) b w W
+      (with_view k spell S M d known 0 g lies env (stacked g v) can.fours.0 x (known.terms.arguments PrivateMemory 0 0 g env v all.0 can.sound.0 (omega arith)) (known.terms.lying PrivateMemory 0 lies env v can.fours.0 all.1 can.fours.1) all) tg st.1
+      (record { written = can.written.1; sound = can.sound.1; layouts = can.layouts.1; low = can.low.1; fours = can.fours.3; deep = omega arith; variables = at_most (omega arith) (omega arith); privates = omega arith }) locs phs
+  groups_fine g lies to_lie env (Map WorkGroup m ls xs b) w W all tg st can locs phs =
       let x = argument_view private_arrays spell ins env 0 xs in
       let h = stacked g xs in
       let deep = can.deep in
@@ -215,13 +223,25 @@ module _ (k : Kernel) (spell : List Monomial → Formula) (forms : MapForms (Lis
       let most = can.layouts.0 in
       let room = known.room.fits in
       let used : Used = record { locals = 0; privates = 0; variables = load_count ls; phases = 0 } in
+      let inside = push (bound_lie ls (element_lie can.fours.0)) lies in
       let closing = fenced (fence (phases_in b)) End in
       let body : ℕ → (ℕ → View) → View → Code → Code = λ l e to last. print_to l 0 e used b to closing in
-      subst (Right k 0 0) (same_statement (forms.once m) (spell m) (λ turn l. maps.print_turn k spell S M d known WorkGroup 0 0 (spell m) ls x h 0 g env w W body turn l End))
-      (maps.statement_fine k spell S M d known WorkGroup 0 0 (spell m) ls x h 0 g env w W body tg
-      (λ l e to last at. written_comes l 0 1 (push h g) e used b to W closing at st.1 can.written.1 can.sound.2 can.layouts.2 can.low.1 (omega arith) (omega arith) (omega arith))
-      (record { deep = omega arith; spelled = can.sound.0; fits = omega arith; variables = omega arith; array = known.terms.arguments PrivateMemory 0 0 g env xs all can.sound.1 (omega arith); binders = all })
-      (λ l i e to last le all at ok.
-      written_fine l i (push h g) e used b to W closing all at st.1 can.written.1 can.sound.2 can.layouts.2 can.low.1 (omega arith) (omega arith) (omega arith) (omega arith) (omega arith) (fence_fine k fence N flagged l i (phases_in b) End (omega arith) refl))
+      subst (Right k 0 0) (same_statement (forms.once m) (spell m) (λ turn l. maps.print_turn k spell S M d known WorkGroup 0 0 (spell m) ls x h no_variables g env w W lies can.fours.0 to_lie body turn l End))
+      (maps.statement_fine k spell S M d known WorkGroup 0 0 (spell m) ls x h no_variables g env w W lies can.fours.0 to_lie body tg.0
+      (λ l e to last at. written_comes l 0 1 (push h g) inside (element_lie to_lie) e used b to W closing at st.1 can.written.1 can.sound.2 can.layouts.2 can.low.1 can.fours.4 (omega arith) (at_most (omega arith) (omega arith)) (omega arith))
+      (record {
+        deep = omega arith;
+        spelled = can.sound.0;
+        fits = omega arith;
+        variables = at_most (omega arith) (omega arith);
+        array = known.terms.arguments PrivateMemory 0 0 g env xs all.0 can.sound.1 (omega arith);
+        binders = all.0;
+        array_lies = known.terms.lying PrivateMemory 0 lies env xs can.fours.0 all.1 can.fours.1;
+        fours = can.fours.3;
+        binders_lie = all.1;
+        place_lies = tg.1;
+      })
+      (λ l i e to last le all all_lie at to_lies ok.
+      written_fine l i (push h g) inside (element_lie to_lie) e used b to W closing (all, all_lie) (at, to_lies) st.1 can.written.1 can.sound.2 can.layouts.2 can.low.1 can.fours.4 (omega arith) (at_most (omega arith) (omega arith)) (omega arith) (omega arith) (omega arith) (fence_fine k fence N flagged l i (phases_in b) End (omega arith) refl))
       (forms.once m))
-  groups_fine g env _ w W all tg st can locs phs = absurd st
+  groups_fine g lies to_lie env _ w W all tg st can locs phs = absurd st

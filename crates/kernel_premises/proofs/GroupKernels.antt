@@ -6,12 +6,14 @@ use Rattle.kernel_tree.specs.Code.{Output}
 use Rattle.lift_tree.specs.Annotations.{type_in}
 use Rattle.lift_ir.specs.Terms.{WorkGroup, LocalMemory, Term, Reshape, LetArray, Map}
 use Rattle.lift_ir.specs.AtLaunch.{shape_of}
+use Rattle.lift_ir.specs.Fours.{Whole, no_lie}
 use Rattle.printed_form.specs.Counts.{copy_lengths}
 use Rattle.printed_form.specs.Views.{placed_view}
 use Rattle.printed_form.specs.Printer.{no_view}
 use Rattle.printed_form.specs.Programs.{lowered_root}
 use Rattle.printed_form.proofs.Lengths as privates
 use Rattle.printed_form.proofs.GrammarKernels.{is_size}
+use Rattle.printed_form.proofs.Runs.{at_most}
 use Rattle.printed_form.specs.GrammarPieces.{ViewsStayWithin, MapsAreOfTheGrammar, HasRoomFor, TermsArePrintedWithin}
 use Rattle.group_form.specs.ChosenForms.{forms_of}
 use Rattle.group_form.specs.Forms.{StandsOverGroups}
@@ -42,6 +44,6 @@ group_kernels_are_of_the_grammar stay maps printed counted spell fence S M d loc
     let private = privates.counted r in
     let loops = h.loops in
     known.terms.kernel ty r refl refl refl h.sound (is_size local h.size) (groups_come k spell forms S M d known fence (phase_count r) h.flagged no_view r w stands.0)
-    (groups_fine k spell forms S M d known fence (phase_count r) h.flagged (λ v. 0) no_view r w 0 (λ v. known.views.blank 0 0) (known.terms.output ty refl h.lengths h.few) stands.0
-    (record { written = h.written; sound = h.sound; layouts = h.layouts; low = h.low; deep = omega arith; variables = omega arith; privates = omega arith })
+    (groups_fine k spell forms S M d known fence (phase_count r) h.flagged (λ v. 0) no_lie Whole no_view r w 0 ((λ v. known.views.blank 0 0), (λ v. tt)) (known.terms.output ty refl h.lengths h.few, (λ cs is. refl)) stands.0
+    (record { written = h.written; sound = h.sound; layouts = h.layouts; low = h.low; fours = h.fours; deep = omega arith; variables = at_most (omega arith) (omega arith); privates = omega arith })
     (enough_locals counted r stands.0) (omega arith))

@@ -1,6 +1,8 @@
 -- How deep a lowered term nests, by the height of the term.
 use Rattle.std.proofs.Common.{ℕ, ◌+◌, ◌≤◌, Bool, true, false, List, arith}
 use Rattle.std.specs.Prelude.{max, if◌then◌else◌}
+use Rattle.scalar_ops.specs.declared.op.Op.{Op}
+use Rattle.scalar_ops.specs.declared.op.Op.TheVariants.{Div, Rem}
 use Rattle.size_arith.specs.declared.names.Name.{Name}
 use Rattle.lift_tree.specs.declared.term.UnaryForm.{UnaryForm}
 use Rattle.lift_tree.specs.declared.term.UnaryForm.TheVariants as unary
@@ -8,10 +10,11 @@ use Rattle.lift_tree.specs.declared.term.BinaryForm.{BinaryForm}
 use Rattle.lift_tree.specs.declared.term.BinaryForm.TheVariants as binary
 use Rattle.lift_tree.specs.Tree as tree
 use Rattle.lift_tree.specs.Tree.{Tree, height}
+use Rattle.lift_tree.specs.Meaning.{scalar_op}
 use Rattle.lift_tree.specs.Types.{PlainTy}
 use Rattle.lift_tree.specs.Annotations.{Annotation, Leaf, One, Two, Three, type_in}
-use Rattle.lift_ir.specs.Terms.{Literal, Bound, Source, Apply, ApplyNumber, Select, Both, Project, Reshape, LetArray, LetElement, Map, Fold, Store, Copy}
-use Rattle.lift_ir.specs.Lowering.{Place, Written, Argument, Element, Lowered, is_element, element_ty, placed, placed_element, lower, lower_unary, lower_binary, lower_let, operand_place, binary_place, value_place, body_place}
+use Rattle.lift_ir.specs.Terms.{Literal, Bound, Source, Apply, ApplyNumber, ApplyLanes, DivideLanes, Select, Both, Project, Reshape, LetArray, LetElement, Map, Fold, Store, Copy}
+use Rattle.lift_ir.specs.Lowering.{Place, Written, Argument, Element, Lowered, is_element, is_vector, element_ty, divided, applied, placed, placed_element, lower, lower_unary, lower_binary, lower_let, operand_place, binary_place, value_place, body_place}
 use Rattle.lift_ir.proofs.Reshaped.{through_layout}
 use Rattle.printed_form.specs.Sound.{AreLow, expression_height, loop_depth}
 
@@ -22,7 +25,7 @@ pub record Low (h : ℕ) (t : Lowered) : Type 0 where
   pub loops : loop_depth t ≤ h
 
 placed_low : (p : Place) (a : PlainTy) (h : ℕ) (t : Lowered) → AreLow h t → expression_height t ≤ h → loop_depth t ≤ h → 1 ≤ h → Low h (placed p a t)
-placed_low Written a h t e x l one = record { elements = x; expressions = one; loops = omega arith }
+placed_low Written a h t e x l one = record { elements = x; expressions = omega arith; loops = omega arith }
 placed_low Argument a h t e x l one = record { elements = e; expressions = x; loops = l }
 placed_low Element a h t e x l one = record { elements = e; expressions = x; loops = l }
 
@@ -32,6 +35,8 @@ are_low_more h i (Bound v) le e = tt
 are_low_more h i (Source v) le e = tt
 are_low_more h i (Apply o x y) le e = tt
 are_low_more h i (ApplyNumber o m x) le e = tt
+are_low_more h i (ApplyLanes o l r x y) le e = tt
+are_low_more h i (DivideLanes o m x) le e = tt
 are_low_more h i (Select c x y) le e = tt
 are_low_more h i (Both z x y) le e = (are_low_more h i x le e.0, are_low_more h i y le e.1)
 are_low_more h i (Project s x) le e = are_low_more h i x le e
@@ -47,11 +52,19 @@ pub low_more : (h i : ℕ) (t : Lowered) → h ≤ i → Low h t → Low i t
 low_more h i t le l = record { elements = are_low_more h i t le l.elements; expressions = (let x = l.expressions in omega arith); loops = (let x = l.loops in omega arith) }
 
 literal_low : (h : ℕ) → 1 ≤ h → Low h (Literal 0)
-literal_low h one = record { elements = tt; expressions = one; loops = omega arith }
+literal_low h one = record { elements = tt; expressions = omega arith; loops = omega arith }
+
+divided_low : (p : Place) (a : PlainTy) (vector : Bool) (o : Op) (m h : ℕ) (t : Lowered) → Low h t → Low (h + 1) (placed p a (divided vector o m t))
+divided_low p a false o m h t l = let x = l.expressions in placed_low p a (h + 1) (ApplyNumber o m t) tt (omega arith) (omega arith) (omega arith)
+divided_low p a true o m h t l = let x = l.expressions in placed_low p a (h + 1) (DivideLanes o m t) tt (omega arith) (omega arith) (omega arith)
+
+applied_low : (p : Place) (a : PlainTy) (vector left right : Bool) (o : Op) (h i : ℕ) (t u : Lowered) → Low h t → Low i u → Low (max h i + 1) (placed p a (applied vector left right o t u))
+applied_low p a false left right o h i t u l r = let x = l.expressions in let y = r.expressions in placed_low p a (max h i + 1) (Apply o t u) tt (omega arith) (omega arith) (omega arith)
+applied_low p a true left right o h i t u l r = let x = l.expressions in let y = r.expressions in placed_low p a (max h i + 1) (ApplyLanes o left right t u) tt (omega arith) (omega arith) (omega arith)
 
 unary_low : (names : List Name) (p : Place) (f : UnaryForm) (a b : PlainTy) (h : ℕ) (t : Lowered) → Low h t → Low (h + 1) (lower_unary names p f a b t)
-unary_low names p (unary.Div m) a b h t l = let x = l.expressions in placed_low p a (h + 1) _ tt (omega arith) (omega arith) (omega arith)
-unary_low names p (unary.Rem m) a b h t l = let x = l.expressions in placed_low p a (h + 1) _ tt (omega arith) (omega arith) (omega arith)
+unary_low names p (unary.Div m) a b h t l = divided_low p a (is_vector a) Div m h t l
+unary_low names p (unary.Rem m) a b h t l = divided_low p a (is_vector a) Rem m h t l
 unary_low names p unary.First a b h t l = let m = low_more h (h + 1) t (omega arith) l in placed_low p a (h + 1) (Project false t) m.elements m.expressions m.loops (omega arith)
 unary_low names p unary.Second a b h t l = let m = low_more h (h + 1) t (omega arith) l in placed_low p a (h + 1) (Project true t) m.elements m.expressions m.loops (omega arith)
 unary_low names p unary.ToPrivate a b h t l = let m = low_more h (h + 1) t (omega arith) l in record { elements = m.elements; expressions = omega arith; loops = m.loops }
@@ -62,17 +75,17 @@ unary_low names p (unary.Layout y) a b h t l =
 unary_low names p (unary.Slide s k) a b h t l = let m = low_more h (h + 1) t (omega arith) l in record { elements = m.elements; expressions = omega arith; loops = m.loops }
 unary_low names p (unary.Pad s k) a b h t l = let m = low_more h (h + 1) t (omega arith) l in record { elements = m.elements; expressions = omega arith; loops = m.loops }
 
-binary_low : (p : Place) (f : BinaryForm) (a : PlainTy) (h i : ℕ) (t u : Lowered) → Low h t → Low i u → Low (max h i + 1) (lower_binary p f a t u)
-binary_low p (binary.Operator o) a h i t u l r = let x = l.expressions in let y = r.expressions in placed_low p a (max h i + 1) _ tt (omega arith) (omega arith) (omega arith)
-binary_low p binary.Pair a h i t u l r =
+binary_low : (p : Place) (f : BinaryForm) (a b c : PlainTy) (h i : ℕ) (t u : Lowered) → Low h t → Low i u → Low (max h i + 1) (lower_binary p f a b c t u)
+binary_low p (binary.Operator o) a b c h i t u l r = applied_low p a (is_vector a) (is_vector b) (is_vector c) (scalar_op o) h i t u l r
+binary_low p binary.Pair a b c h i t u l r =
     let m = low_more h (max h i + 1) t (omega arith) l in let n = low_more i (max h i + 1) u (omega arith) r in
     let x = m.expressions in let y = n.expressions in let z = m.loops in let w = n.loops in
     placed_low p a (max h i + 1) (Both false t u) (m.elements, n.elements) (omega arith) (omega arith) (omega arith)
-binary_low p binary.Zip a h i t u l r =
+binary_low p binary.Zip a b c h i t u l r =
     let m = low_more h (max h i + 1) t (omega arith) l in let n = low_more i (max h i + 1) u (omega arith) r in
     let x = m.expressions in let y = n.expressions in let z = m.loops in let w = n.loops in
     record { elements = (m.elements, n.elements); expressions = omega arith; loops = omega arith }
-binary_low p (binary.Reduce o) a h i t u l r = literal_low (max h i + 1) (omega arith)
+binary_low p (binary.Reduce o) a b c h i t u l r = literal_low (max h i + 1) (omega arith)
 
 let_low : (c : PlainTy) (h i : ℕ) (v b : Lowered) → Low h v → Low i b → Low (max h i + 1) (lower_let c v b)
 let_low c h i v b l r = by_test (is_element c) where
@@ -100,7 +113,7 @@ lower_low names p (tree.Unary f t) (One a n) = unary_low names p f a (type_in n)
 lower_low names p (tree.Unary f t) (Leaf a) = literal_low (height t + 1) (omega arith)
 lower_low names p (tree.Unary f t) (Two a n m) = literal_low (height t + 1) (omega arith)
 lower_low names p (tree.Unary f t) (Three a n m k) = literal_low (height t + 1) (omega arith)
-lower_low names p (tree.Binary f t u) (Two a n m) = binary_low p f a (height t) (height u) (lower names (binary_place f) t n) (lower names (binary_place f) u m) (lower_low names (binary_place f) t n) (lower_low names (binary_place f) u m)
+lower_low names p (tree.Binary f t u) (Two a n m) = binary_low p f a (type_in n) (type_in m) (height t) (height u) (lower names (binary_place f) t n) (lower names (binary_place f) u m) (lower_low names (binary_place f) t n) (lower_low names (binary_place f) u m)
 lower_low names p (tree.Binary f t u) (Leaf a) = literal_low (max (height t) (height u) + 1) (omega arith)
 lower_low names p (tree.Binary f t u) (One a n) = literal_low (max (height t) (height u) + 1) (omega arith)
 lower_low names p (tree.Binary f t u) (Three a n m k) = literal_low (max (height t) (height u) + 1) (omega arith)

@@ -46,6 +46,7 @@ module _ (sound : LoweredTermsHaveSoundParts) (spelled : SoundPartsAreSpelled) (
         sound = parts.parts;
         layouts = within.0;
         low = within.1;
+        fours = printable.fours;
         loops = within.2;
         lengths = parts.output;
         few = parts.few;
@@ -55,7 +56,7 @@ module _ (sound : LoweredTermsHaveSoundParts) (spelled : SoundPartsAreSpelled) (
   kernels_are_in_the_grammar items groups grids flags OfItems d local fence t n size legal printable needed few low =
       let g = gives OfItems (kernel_for OfItems d local fence t n) 0 d local (λ q. Open) t n refl size (λ q le. tt) legal printable few low in
       items (length_formula d.names) length_height 72 d local t n
-      (record { size = g.size; some = g.some; fits = g.fits; written = g.written; sound = g.sound; layouts = g.layouts; low = g.low; loops = g.loops; lengths = g.lengths; few = g.few })
+      (record { size = g.size; some = g.some; fits = g.fits; written = g.written; sound = g.sound; layouts = g.layouts; low = g.low; fours = g.fours; loops = g.loops; lengths = g.lengths; few = g.few })
   kernels_are_in_the_grammar items groups grids flags OfGroups d local fence t n size legal printable needed few low =
       let root : Lowered = lowered_root d.names t n in
       let flagged = flags (group_touches root) (is_once (forms_of d.names local) root) (phase_count root) fence needed in

@@ -17,6 +17,7 @@ natural_some (negsuc n) h = absurd (omega (arith, ints))
 
 pub has_a_cell : (names : List Name) (a : PlainTy) → AreNames names → IsFormed names a → 1 ≤ size (ty_at (leasts names) a)
 has_a_cell names types.U32 are h = omega arith
+has_a_cell names types.U32x4 are h = omega arith
 has_a_cell names (types.PairOf a b) are h = omega arith
 has_a_cell names (types.ArrayOf a n) are h =
     mul-le 1 1 (length_at (leasts names) n) (size (ty_at (leasts names) a)) (natural_some (value_at (leasts names) n) (at_least_one names n are h.0)) (has_a_cell names a are h.1)

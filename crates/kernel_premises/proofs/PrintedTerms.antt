@@ -26,5 +26,5 @@ pub terms_are_printed : FormulasSpellLengths → KernelsArePrinted → TermsAreP
 terms_are_printed spelled printed p d local bases fence t n l printable launch needed =
     let ok = launch.admissible.sizes in
     let program = printable.can.lowerable bases ok in
-    printed p d _ bases t n l (length_formula d.names) fence program launch printable.can.staged (printable.at_launch local bases l launch) (printable.can.fits bases ok)
+    printed p d _ bases t n l (length_formula d.names) fence program launch printable.can.staged (printable.at_launch local bases l launch) printable.fours (printable.can.fits bases ok)
     (spelled d.names bases l program.declared.names ok launch.sizes) needed

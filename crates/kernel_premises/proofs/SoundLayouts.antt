@@ -6,9 +6,9 @@ use Rattle.lift_tree.specs.declared.layout.Layout.TheVariants as layouts
 use Rattle.lift_tree.specs.declared.term.UnaryForm.TheVariants as unary
 use Rattle.lift_tree.specs.Types as types
 use Rattle.lift_tree.specs.Types.{PlainTy}
-use Rattle.lift_tree.specs.Typing.{Declared, LayoutRow}
+use Rattle.lift_tree.specs.Typing.{Declared, LayoutRow, constant}
 use Rattle.lift_tree.specs.WorkedOut.{product_of}
-use Rattle.lift_tree.proofs.LengthsFit.{divisor_fits, quotient_fits}
+use Rattle.lift_tree.proofs.LengthsFit.{constant_fits, divisor_fits, quotient_fits}
 use Rattle.lift_tree.proofs.WithinLimits.{IsWithin}
 use Rattle.lift_ir.specs.AtLaunch.{outer_of}
 use Rattle.lift_ir.specs.Layouts.{Layout, Split, Join, Transpose, Reverse, Slide, Pad}
@@ -36,6 +36,8 @@ module _ (d : Declared) (Declares : ℕ → Type 0) where
   sound_layout p layouts.Transpose b a t r x z h = (tt, h)
   sound_layout p (layouts.Split fs) b a t r x z h = (inner_held a z.lengths, h)
   sound_layout p layouts.Reverse b a t r x z h = (outer_held b x.lengths, h)
+  sound_layout p layouts.AsVector b a t r x z h = (held (constant 4) (constant_fits 4), h)
+  sound_layout p layouts.AsScalar b a t r x z h = (held (constant 4) (constant_fits 4), h)
   sound_layout p (layouts.Stride fs) b a t r x z h =
       let step = product_of d.names fs in
       let g = subst (IsWithin d.names) r.2 x in

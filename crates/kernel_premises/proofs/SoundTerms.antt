@@ -7,7 +7,7 @@ use Rattle.lift_tree.specs.Typing.{Declared}
 use Rattle.lift_tree.specs.Annotations.{type_in}
 use Rattle.kernel_tree.specs.Code.{Kernel}
 use Rattle.lift_ir.specs.Types.{Shape, Scalar, PairOf, ArrayOf}
-use Rattle.lift_ir.specs.Terms.{Term, Literal, Bound, Source, Apply, ApplyNumber, Select, Both, Project, Reshape, LetArray, LetElement, Map, Fold, Store, Copy}
+use Rattle.lift_ir.specs.Terms.{Term, Literal, Bound, Source, Apply, ApplyNumber, ApplyLanes, DivideLanes, Select, Both, Project, Reshape, LetArray, LetElement, Map, Fold, Store, Copy}
 use Rattle.lift_ir.specs.AtLaunch.{shape_of}
 use Rattle.printed_form.specs.Programs.{input_shape, lowered_root}
 use Rattle.printed_form.specs.Sound.{AllLengths, IsSound}
@@ -32,6 +32,8 @@ module _ {A : Type 0} (P R : A → Type 0) (wider : (n : A) → P n → R n) whe
     sound_wider (Source s) h = sources s h
     sound_wider (Apply o a b) h = (sound_wider a h.0, sound_wider b h.1)
     sound_wider (ApplyNumber o m a) h = (h.0, h.1, sound_wider a h.2)
+    sound_wider (ApplyLanes o l r a b) h = (h.0, sound_wider a h.1, sound_wider b h.2)
+    sound_wider (DivideLanes o m a) h = (h.0, h.1, sound_wider a h.2)
     sound_wider (Select c a b) h = (sound_wider c h.0, sound_wider a h.1, sound_wider b h.2)
     sound_wider (Both zips a b) h = (sound_wider a h.0, sound_wider b h.1)
     sound_wider (Project s a) h = sound_wider a h

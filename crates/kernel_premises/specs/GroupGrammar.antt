@@ -13,6 +13,7 @@ use Rattle.barrier_placement.specs.declared.touches.Touch.{Touch}
 use Rattle.barrier_placement.specs.Fencing.{Fencing, Open, Fenced}
 use Rattle.barrier_placement.specs.Needed.{Needed}
 use Rattle.lift_ir.specs.AtLaunch.{shape_of}
+use Rattle.lift_ir.specs.Fours.{KeepsFours}
 use Rattle.printed_form.specs.Programs.{lowered_root}
 use Rattle.printed_form.specs.Sound.{IsSpelledIn, AllLengths, IsWrittenWithin, dimensions, loop_depth, AreLow, CanBeWritten}
 use Rattle.printed_form.specs.KernelGrammar.{IsSoundIn}
@@ -30,22 +31,24 @@ IsFlagged (Fenced on_local on_global) = (on_local || on_global) ≡ true
 
 -- A typed term is printed within the grammar as this kernel, in so many phases: barriers have
 -- flags; something is stored wherever it is written; its numbers are words, its lengths and inputs
--- are spelled in the grammar, at most so high; at most so many layouts stand one on another;
--- element terms and loops don't nest too deep; groups may have the size that is fixed.
+-- are spelled in the grammar, at most so high; its vectors lie in no private array;
+-- at most so many layouts stand one on another; element terms and loops don't nest too deep; groups
+-- may have the size that is fixed.
 pub record IsFencedWithin (k : Kernel) (phases : ℕ) (spell : List Monomial → Formula)
     (fence : ℕ → Fencing) (high most : ℕ) (d : Declared) (local : Option (ℕ × ℕ)) (t : Tree)
     (a : Annotation) : Type 0 where
   pub size : IsLocalSize local
   pub some : 1 ≤ high
-  pub fits : high + (8 + 3 * most) ≤ 1024
+  pub fits : high + (10 + 3 * most) ≤ 1024
   pub flagged : (q : ℕ) → q ≤ phases → IsFlagged (fence q)
   pub written : CanBeWritten (lowered_root d.names t a)
   pub sound : IsSoundIn k spell high d (lowered_root d.names t a)
+  pub fours : KeepsFours (lowered_root d.names t a)
   pub layouts : IsWrittenWithin most (λ v. 0) 0 (lowered_root d.names t a)
-  pub low : AreLow 1024 (lowered_root d.names t a)
+  pub low : AreLow 1023 (lowered_root d.names t a)
   pub loops : loop_depth (lowered_root d.names t a) ≤ 1024
   pub lengths : AllLengths (λ n. IsSpelledIn k high (spell n)) (shape_of (type_in a))
-  pub few : dimensions (shape_of (type_in a)) ≤ 4
+  pub few : dimensions (shape_of (type_in a)) ≤ 5
 
 -- a map over work-groups that is
 abbrev pub IsGroupPrintedWithin : (spell : List Monomial → Formula) → (fence : ℕ → Fencing)

@@ -21,10 +21,10 @@ pub record IsHeld (n : List Monomial) : Type 0 where
   pub terms : length n ≤ 32
   pub degree : degree n ≤ 4
 
--- a type of at most four arrays around a scalar, its lengths within their limits
+-- a type of at most four arrays around a scalar or a vector, its lengths within their limits
 pub record IsHeldType (a : PlainTy) : Type 0 where
   pub lengths : AllLengths IsHeld (shape_of a)
-  pub few : dimensions (shape_of a) ≤ 4
+  pub few : dimensions (shape_of a) ≤ 5
 
 -- the inputs, the output and all lengths in the term are within their limits; its numbers are
 -- words, its inputs are declared, and its copies have arrays that can be declared
@@ -41,4 +41,4 @@ IsLengthIn k d p = IsSpelledIn k length_height (length_formula d.names p)
 pub record HasSpelledParts (k : Kernel) (d : Declared) (t : Tree) (n : Annotation) : Type 0 where
   pub parts : IsSoundIn k (length_formula d.names) length_height d (lowered_root d.names t n)
   pub output : AllLengths (IsLengthIn k d) (shape_of (type_in n))
-  pub few : dimensions (shape_of (type_in n)) ≤ 4
+  pub few : dimensions (shape_of (type_in n)) ≤ 5

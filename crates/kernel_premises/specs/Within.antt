@@ -23,5 +23,5 @@ TermsNestWithin =
     → IsOutput (type_in n) → IsStaged Written t n → CanBeWritten (lowered_root d.names t n)
     → most ≤ 256 → layouts t n ≤ most → height t ≤ 512
     → IsWrittenWithin (3 * most) (λ v. 0) 0 (lowered_root d.names t n)
-    × AreLow 1024 (lowered_root d.names t n)
+    × AreLow 1023 (lowered_root d.names t n)
     × (loop_depth (lowered_root d.names t n) ≤ 1024)

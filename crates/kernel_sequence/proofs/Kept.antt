@@ -1,11 +1,11 @@
 -- What is left of a term has the term's value, where each scratch array holds its kernel's.
-use Rattle.std.proofs.Common.{◌≡◌, ℕ, suc, ◌+◌, List, [], ◌∷◌, ◌++◌, length, sym, ap, ◌∙◌, subst, arith}
+use Rattle.std.proofs.Common.{◌≡◌, ℕ, suc, ◌+◌, List, [], ◌∷◌, ◌++◌, length, refl, sym, ap, ap₂, ◌∙◌, subst, arith}
 use Rattle.lift_tree.specs.declared.term.UnaryForm.TheVariants.{Then}
 use Rattle.lift_tree.specs.Tree.{Tree, Unary, Binary, Select, Let, Map, Fold}
 use Rattle.lift_tree.specs.Annotations.{Annotation, One, Two, Three}
 use Rattle.lift_tree.specs.Belonging.{Belongs}
 use Rattle.lift_tree.specs.Values.{Value, nth}
-use Rattle.lift_tree.specs.Meaning.{World, meaning, unary_value}
+use Rattle.lift_tree.specs.Meaning.{World, meaning, unary_value, binary_value}
 use Rattle.lift_tree.proofs.Renumbered.{same_map, same_fold, same_let}
 use Rattle.kernel_sequence.specs.Cut.{Part, cut_off}
 use Rattle.kernel_sequence.specs.Values.{with_more, Hold}
@@ -45,9 +45,7 @@ module _ (w : World) (us : List Value) (s i : ℕ) (inputs : length w.inputs ≡
       ap (unary_value (with_more w us) f) (kept made t n b.1 h) ∙ same_form w us f (meaning w [] t)
   kept made (Binary f t v) (Two a n m) b h =
       let c = cut_off i made t n in
-      let p = kept made t n b.0 (earlier c.made v m h) in
-      let q = kept c.made v m b.1 h in
-      cc
+      ap₂ (binary_value f) (kept made t n b.0 (earlier c.made v m h)) (kept c.made v m b.1 h)
   kept made (Select t v x) (Three a n m k) b h =
       let c = cut_off i made t n in
       let d = cut_off i c.made v m in
@@ -55,7 +53,7 @@ module _ (w : World) (us : List Value) (s i : ℕ) (inputs : length w.inputs ≡
       let p = kept made t n b.0 (earlier c.made v m g) in
       let q = kept c.made v m b.1 g in
       let r = kept d.made x k b.2 h in
-      cc
+      rw (p, q, r) refl
   kept made (Let v t) (Two a n m) b h =
       same_let (λ y. meaning (with_more w us) (y ∷ []) t) (λ y. meaning w (y ∷ []) t) _ _
       (λ y. more_inputs_keep_the_value w us (y ∷ []) s i 1 t inputs b.1)

@@ -4,6 +4,7 @@ use Rattle.std.proofs.Common.{◌≡◌, List, ◌∷◌, sym, subst, inl, inr}
 use Rattle.std.specs.Prelude.{◌⊎◌}
 use Rattle.size_arith.specs.declared.poly.Monomial.{Monomial}
 use Rattle.lift_tree.specs.declared.layout.Layout as layout
+use Rattle.lift_tree.specs.declared.term.Operator.{Operator}
 use Rattle.lift_tree.specs.declared.term.UnaryForm.{UnaryForm}
 use Rattle.lift_tree.specs.declared.term.UnaryForm.TheVariants as unary
 use Rattle.lift_tree.specs.declared.term.BinaryForm.{BinaryForm}
@@ -11,9 +12,9 @@ use Rattle.lift_tree.specs.declared.term.BinaryForm.TheVariants as binary
 use Rattle.lift_tree.specs.Lists.{Every}
 use Rattle.lift_tree.specs.Tree as tree
 use Rattle.lift_tree.specs.Tree.{Tree}
-use Rattle.lift_tree.specs.Types.{PlainTy, U32, PairOf, ArrayOf}
+use Rattle.lift_tree.specs.Types.{PlainTy, U32, U32x4, PairOf, ArrayOf}
 use Rattle.lift_tree.specs.Limits.{HasFewScalars, LayoutFits, NodesFit, OuterFits, UnaryFits}
-use Rattle.lift_tree.specs.Typing.{BinaryRow, Declared, UnaryRow}
+use Rattle.lift_tree.specs.Typing.{BinaryRow, Declared, OperatorRow, UnaryRow}
 use Rattle.lift_tree.specs.Annotations.{Annotates, Annotation, Leaf, One, Two, Three, type_in}
 use Rattle.lift_tree.proofs.EveryAt.{every_at}
 use Rattle.lift_tree.proofs.Layouts.{FormsAnew, layout_cases}
@@ -25,6 +26,9 @@ module _ (d : Declared) (inputs : Every (HasFewScalars d.names) d.inputs) where
   number : (a : PlainTy) → a ≡ U32 → Few a
   number a e = subst Few (sym e) tt
 
+  vector : (a : PlainTy) → a ≡ U32x4 → Few a
+  vector a e = subst Few (sym e) tt
+
   outer : (a : PlainTy) (x : PlainTy) (n : List Monomial) → a ≡ ArrayOf x n → OuterFits d.names a → Few a
   outer a x n e h = subst Few (sym e) (subst (OuterFits d.names) e h).scalars
 
@@ -33,8 +37,8 @@ module _ (d : Declared) (inputs : Every (HasFewScalars d.names) d.inputs) where
   of_layout l b a (inr r) u h = subst Few (sym r.is) (r.fits u).scalars
 
   of_unary : (f : UnaryForm) (b a : PlainTy) → UnaryRow d.names f b a → UnaryFits d.names f b → Few b → Few a
-  of_unary (unary.Div k) b a r u h = number a r.2
-  of_unary (unary.Rem k) b a r u h = number a r.2
+  of_unary (unary.Div k) b a r u h = subst Few (sym r.2) h
+  of_unary (unary.Rem k) b a r u h = subst Few (sym r.2) h
   of_unary unary.First b a r u h = (subst Few r.1 h).0
   of_unary unary.Second b a r u h = (subst Few r.1 h).1
   of_unary (unary.Layout l) b a r u h = of_layout l b a (layout_cases d.names l b a r) u h
@@ -44,8 +48,15 @@ module _ (d : Declared) (inputs : Every (HasFewScalars d.names) d.inputs) where
   of_unary unary.ToPrivate b a r u h = subst Few r h
   of_unary unary.Then b a r u h = subst Few r h
 
+  of_operator : (o : Operator) (b c a : PlainTy) → OperatorRow o b c a → Few a
+  of_operator o U32 U32 a r = number a r
+  of_operator o U32 U32x4 a r = vector a r.1
+  of_operator o U32x4 U32 a r = vector a r.1
+  of_operator o U32x4 U32x4 a r = vector a r.1
+  of_operator o _ _ a r = absurd (assumption)
+
   of_binary : (f : BinaryForm) (b c a : PlainTy) → BinaryRow f b c a → OuterFits d.names a → Few b → Few c → Few a
-  of_binary (binary.Operator o) b c a r u h k = number a r.2
+  of_binary (binary.Operator o) b c a r u h k = of_operator o b c a r
   of_binary binary.Pair b c a r u h k = subst Few (sym r.2) (h, k)
   of_binary binary.Zip b c a r u h k = outer a (PairOf r.0 r.1) r.2 r.5 u
   of_binary (binary.Reduce o) b c a r u h k = outer a U32 _ r.3 u

@@ -139,7 +139,7 @@ module _ (d : Declared) where
           nodes = (x.nodes, s.1.nodes, subst (λ z. BinaryRow o (type_in p.left.types) z a) (sym s.1.own) (subst (λ z. BinaryRow o z (type_in m) a) (sym r.1.own) y.2));
           own = refl;
           fits = (x.fits, s.1.fits, f.2);
-          copies = (x.copies, s.1.copies);
+          copies = (x.copies, s.1.copies, c.2);
           words = (x.words, s.1.words);
           low = (let e = x.low in let g = s.1.low in omega (arith, e, g));
         },

@@ -12,7 +12,7 @@ use Rattle.launch_file.specs.declared.refusal.Key.TheVariants as key
 use Rattle.launch_file.specs.declared.refusal.LaunchNo.{LaunchNo}
 use Rattle.launch_file.specs.declared.refusal.LaunchNo.TheVariants as no
 use Rattle.launch_file.specs.Json.{is_object, pair_at, object_at, word_in, words_in, number_data}
-use Rattle.launch_file.specs.LaunchFile.{PlainAsk, Run, Eval, Cost, HoldsInputs, PairAt, StandsAt, IsScheduleData, IsSchedule, GivesSchedule, GivesItems}
+use Rattle.launch_file.specs.LaunchFile.{PlainAsk, Run, Eval, Cost, HoldsInputs, PairAt, IsScheduleData, IsSchedule, GivesSchedule, GivesItems}
 use Rattle.launch_file.specs.Judged.{holder_judged, demand, schedule_from, schedule_in, schedule_at, schedule_judged, count_judged, Keyed, keys_judged, is_size, is_asked_size, is_grouped, is_enough, is_flat, items_judged}
 use Rattle.launch_file.proofs.Options.{and_ok, then_ok, ok_or_is, demand_is, demand_gives, yes, same_ok, and_some, map_some, and_parts, and_both, le_of, le_to, eq_of, eq_to}
 use Rattle.launch_file.proofs.WrittenData.{pair_at_is, pair_at_gives, object_at_is, object_at_gives, word_in_is, word_in_gives, words_in_is, words_in_gives, as_array_is, no_list}

@@ -1,6 +1,6 @@
 //! The line that a run or an evaluation prints.
 
-ghost use Rattle.std.specs.Prelude.{◌≡◌, ◌+◌, ◌<◌, ◌≤◌, ◌^◌, ◌++◌, IfOk, OnOk, decimal, get_or, length, map};
+ghost use Rattle.std.specs.Prelude.{◌≡◌, ◌+◌, ◌*◌, ◌<◌, ◌≤◌, ◌^◌, ◌++◌, IfOk, OnOk, decimal, get_or, length, map};
 ghost use Rattle.lift_tree.specs.Types.{ty_of};
 ghost use Rattle.lift_tree.specs.Values.{Word, array, value_of};
 ghost use Rattle.value_lists.specs.Lists.{IsSmall, members_from, row, value_in, width};
@@ -151,6 +151,31 @@ fn list_of(lists: &[Vec<u32>], component: usize) -> &[u32]
     &lists[component]
 }
 
+// Writes the vector of this number in the list of the component behind the text.
+fn push_lanes(
+    text: &mut Vec<u8>,
+    lists: &[Vec<u32>],
+    component: usize,
+    number: usize,
+) -> Result<(), AllocError>
+    requires small { (number + 1) * 4 ≤ 2 ^ 32 }
+    requires within { component < length lists.now }
+    ensures { OnOk result (text.new.items ≡ text.old.items ++ value_text (array (members_from
+        (λ j. Word (get_or (row (map (λ l. l.items) lists.now) component) (number * 4 + j) 0))
+        0 4))) }
+{
+    text.push(b'[')?;
+    for lane in 0..4 {
+        if lane > 0 {
+            text.push(b',')?;
+        }
+        let at = element_number(number, 4, lane);
+        push_number(text, u64::from(number_in(lists, component, at)))?;
+    }
+    text.push(b']')?;
+    Ok(())
+}
+
 // Writes the value of this number among values of the type, one after another in lists, the first
 // of which is this component's, behind the text. A list of numbers is written by one loop.
 fn push_listed(
@@ -168,6 +193,7 @@ fn push_listed(
 {
     match ty {
         Ty::Number => push_number(text, u64::from(number_in(lists, component, number))),
+        Ty::Vector => push_lanes(text, lists, component, number),
         Ty::Pair(a, b) => {
             text.push(b'[')?;
             push_listed(text, a, sizes, lists, component, number)?;

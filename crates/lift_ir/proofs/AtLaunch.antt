@@ -22,7 +22,7 @@ use Rattle.lift_tree.specs.Types.{PlainTy, IsFormed}
 use Rattle.lift_tree.specs.WorkedOut.{nth_name, factor_monomial, product_of}
 use Rattle.lift_tree.specs.Typing.{Declared, LayoutRow, UnaryRow, constant, IsAdmissible}
 use Rattle.lift_tree.proofs.Sizes.{number_at, value-of_monomial, value-constant, value-quotient, product_value}
-use Rattle.lift_ir.specs.Types.{ArrayOf, IsShort, Ty}
+use Rattle.lift_ir.specs.Types.{ArrayOf, Scalar, four, IsShort, Ty}
 use Rattle.lift_ir.specs.Layouts.{IsInvertible, Join, Layout, Split, Transpose, Reverse, Slide, Reshapes}
 use Rattle.lift_ir.specs.Terms.{HasType, Reshape}
 use Rattle.lift_ir.specs.Sources.{Lowers}
@@ -102,6 +102,37 @@ module _ (d : Declared) (bases : List ℕ) (shown : (k : ℕ) (p : List Monomial
       let back : at n / at size * at size ≡ at n = ap (λ z. z * at size) divided ∙ (let y : at q * at size ≡ at size * at q = grind arith in y) ∙ sym whole in
       subst (λ z. Reshapes (length_at bases) (Split (inner_of z)) (ty_at bases b) (ty_at bases a)) (sym r.4)
       (subst (λ z. Reshapes (length_at bases) (Split size) (ty_at bases z) (ty_at bases a)) (sym r.2) (es.1, back, ap (ty_at bases) r.4 ∙ ap (λ z. ArrayOf z (ArrayOf (at size) (ty_at bases x))) (sym divided)))
+
+  four_is : at (constant 4) ≡ 4
+  four_is = ap natural (value-constant bases 4)
+
+  pub vector_reshapes : (b a : PlainTy) → IsFormed d.names b → UnaryRow d.names (unary.Layout layout.AsVector) b a → Of b a (unary.Layout layout.AsVector)
+  vector_reshapes b a fb r =
+      let n = r.0 in
+      let m = number (pos 4) in
+      let q = quotient m n in
+      let formed = subst (IsFormed d.names) r.3 r.4 in
+      let child = subst (IsFormed d.names) r.1 fb in
+      let whole : at n ≡ 4 * at q = quotient_is n q m 4 (number_at bases (pos 4)) (value-quotient bases m n r.2) (long n child.0).0 (long q formed.0).0 in
+      let divided : at n / 4 ≡ at q = ap (λ z. z / 4) whole ∙ mul-div_cancel_left (at q) (omega arith) in
+      let back : at n / 4 * 4 ≡ at n = ap (λ z. z * 4) divided ∙ (let y : at q * 4 ≡ 4 * at q = omega arith in y) ∙ sym whole in
+      subst (λ z. Reshapes (length_at bases) (Split (constant 4)) (ty_at bases z) (ty_at bases a)) (sym r.1)
+      (at_four (at n) (at (constant 4)) (ty_at bases a) four_is back (ap (ty_at bases) r.3 ∙ ap (λ z. ArrayOf z four) (sym divided)))
+    where
+      at_four : (n k : ℕ) (u : Ty) → k ≡ 4 → n / 4 * 4 ≡ n → u ≡ ArrayOf (n / 4) four → (0 < k) × (n / k * k ≡ n) × (u ≡ ArrayOf (n / k) (ArrayOf k Scalar))
+      at_four n k u e b t = subst (λ z. (0 < z) × (n / z * z ≡ n) × (u ≡ ArrayOf (n / z) (ArrayOf z Scalar))) (sym e) (omega arith, b, t)
+
+  pub scalar_reshapes : (b a : PlainTy) → IsFormed d.names b → UnaryRow d.names (unary.Layout layout.AsScalar) b a → Of b a (unary.Layout layout.AsScalar)
+  scalar_reshapes b a fb r =
+      let n = r.0 in
+      let child = subst (IsFormed d.names) r.1 fb in
+      let en = long n child.0 in
+      let total : at (times n (constant 4)) ≡ at n * 4 = ap natural (value-times bases n (constant 4) ∙ ap (λ z. value_at bases n *ℤ z) (value-constant bases 4) ∙ ap (λ z. z *ℤ pos 4) (sym en.0)) in
+      subst (λ z. Reshapes (length_at bases) (Join (constant 4)) (ty_at bases z) (ty_at bases a)) (sym r.1)
+      (at_four (at n) (at (constant 4)) (ty_at bases a) four_is (ap (ty_at bases) r.2 ∙ ap (λ z. ArrayOf z Scalar) total))
+    where
+      at_four : (n k : ℕ) (u : Ty) → k ≡ 4 → u ≡ ArrayOf (n * 4) Scalar → (0 < k) × (4 ≡ k) × (u ≡ ArrayOf (n * k) Scalar)
+      at_four n k u e t = subst (λ z. (0 < z) × (4 ≡ z) × (u ≡ ArrayOf (n * z) Scalar)) (sym e) (omega arith, refl, t)
 
   pub join_reshapes : (b a : PlainTy) → IsFormed d.names b → UnaryRow d.names (unary.Layout layout.Join) b a → Of b a (unary.Layout layout.Join)
   join_reshapes b a fb r =
@@ -193,6 +224,8 @@ module _ (d : Declared) (bases : List ℕ) (shown : (k : ℕ) (p : List Monomial
   layout_typed src E p layout.Transpose b a t f r h short_b short_a = (ty_at bases b, h, transpose_reshapes b a f r, short_b, short_a, tt)
   layout_typed src E p (layout.Split fs) b a t f r h short_b short_a = (ty_at bases b, h, split_reshapes fs b a f r, short_b, short_a, tt)
   layout_typed src E p layout.Reverse b a t f r h short_b short_a = (ty_at bases b, h, reverse_reshapes b a f r, short_b, short_a, tt)
+  layout_typed src E p layout.AsVector b a t f r h short_b short_a = (ty_at bases b, h, vector_reshapes b a f r, short_b, short_a, tt)
+  layout_typed src E p layout.AsScalar b a t f r h short_b short_a = (ty_at bases b, h, scalar_reshapes b a f r, short_b, short_a, tt)
   layout_typed src E p (layout.Stride fs) b a t f r h short_b short_a = stride_typed src E fs b a t (stride_lengths fs b a f r) h short_b short_a
 
   pub slide_reshapes : (s t : ℕ) (b a : PlainTy) → IsFormed d.names b → UnaryRow d.names (unary.Slide s t) b a → Of b a (unary.Slide s t)
@@ -248,11 +281,13 @@ module _ (d : Declared) (w : World) (ok : IsAdmissible d w) (few : length d.name
   pub layout_lowers : (p : Place) (l : layouts.Layout) (b a : PlainTy) (n i : ℕ) (t : Tree) (x : Lowered) → LayoutRow d.names l b a → Lowers (length_at w.bases) w n i t x → Lowers (length_at w.bases) w n i (tree.Unary (unary.Layout l) t) (lower_unary d.names p (unary.Layout l) a b x)
   layout_lowers p layout.Join b a n i t x r h = (t, inl refl, h)
   layout_lowers p layout.Transpose b a n i t x r h = (t, refl, h)
-  layout_lowers p (layout.Split fs) b a n i t x r h = (t, (fs, refl, sym (ap (λ z. length_at w.bases (inner_of z)) r.4 ∙ split_size fs)), h)
+  layout_lowers p (layout.Split fs) b a n i t x r h = (t, inl (fs, refl, sym (ap (λ z. length_at w.bases (inner_of z)) r.4 ∙ split_size fs)), h)
+  layout_lowers p layout.AsVector b a n i t x r h = (t, inr (refl, ap natural (value-constant w.bases 4)), h)
+  layout_lowers p layout.AsScalar b a n i t x r h = (t, inr (inl refl), h)
   layout_lowers p layout.Reverse b a n i t x r h = (t, refl, h)
   layout_lowers p (layout.Stride fs) b a n i t x r h =
       let split = tree.Unary (unary.Layout (layout.Split fs)) t in
-      (tree.Unary (unary.Layout layout.Transpose) split, inr (fs, t, refl, refl), (split, refl, (t, (fs, refl, sym (split_size fs)), h)))
+      (tree.Unary (unary.Layout layout.Transpose) split, inr (inr (fs, t, refl, refl)), (split, refl, (t, inl (fs, refl, sym (split_size fs)), h)))
 
 -- ---- a layout is lowered to a few reshapes that can be written through
 -- what holds of so many reshapes of a term, at least one and at most three, holds of this one
@@ -268,6 +303,8 @@ pub by_reshapes : (P : ℕ → Lowered → Type 0) → ((k : ℕ) (y : Layout (L
 by_reshapes P h names p layout.Join a b t k = record { count = 1; some = omega arith; few = omega arith; holds = h 0 _ t (omega arith) tt k }
 by_reshapes P h names p layout.Transpose a b t k = record { count = 1; some = omega arith; few = omega arith; holds = h 0 _ t (omega arith) tt k }
 by_reshapes P h names p (layout.Split fs) a b t k = record { count = 1; some = omega arith; few = omega arith; holds = h 0 _ t (omega arith) tt k }
+by_reshapes P h names p layout.AsVector a b t k = record { count = 1; some = omega arith; few = omega arith; holds = h 0 _ t (omega arith) tt k }
+by_reshapes P h names p layout.AsScalar a b t k = record { count = 1; some = omega arith; few = omega arith; holds = h 0 _ t (omega arith) tt k }
 by_reshapes P h names p layout.Reverse a b t k = record { count = 1; some = omega arith; few = omega arith; holds = h 0 _ t (omega arith) tt k }
 by_reshapes P h names p (layout.Stride fs) a b t k = record {
   count = 3;

@@ -8,6 +8,7 @@ use Rattle.lift_ir.specs.Lowering as ir
 
 pub told_element : (a : PlainTy) → IsElement a → is_element a ≡ true
 told_element types.U32 h = refl
+told_element types.U32x4 h = refl
 told_element (types.PairOf a b) h = and_from (is_element a) (is_element b) (told_element a h.0) (told_element b h.1)
 told_element (types.ArrayOf a n) h = absurd h
 
@@ -21,6 +22,7 @@ right_part a b e = and_right (is_element a) (is_element b) e
 -- the two tests agree
 pub same_test : (a : PlainTy) → ir.is_element a ≡ is_element a
 same_test types.U32 = refl
+same_test types.U32x4 = refl
 same_test (types.PairOf a b) = go (ir.is_element a) (ir.is_element b) (is_element a) (is_element b) (same_test a) (same_test b)
   where
     go : (x y z w : Bool) → x ≡ z → y ≡ w → (if x then y else false) ≡ (z && w)

@@ -8,7 +8,7 @@ use Rattle.std.proofs.lemmas.List.{get_or-map}
 use Rattle.lift_tree.specs.Values.{Value, Word, array, list_of}
 use Rattle.lift_tree.specs.Values as value
 use Rattle.lift_tree.proofs.Members.{length-map}
-use Rattle.lift_ir.specs.Types.{Ty, Scalar, PairOf, ArrayOf, choices_of, IsPosition, IsElement, IsFlat, width, component, size, flat, unflat}
+use Rattle.lift_ir.specs.Types.{Ty, Scalar, PairOf, ArrayOf, choices_of, IsPosition, IsWords, IsFlat, width, component, size, flat, unflat}
 use Rattle.lift_ir.specs.Scalars.{at_index, Scalars, AreLists, HasScalars, side_of, lists_of}
 use Rattle.lift_ir.proofs.Numbers.{flat_below, position_at}
 
@@ -21,7 +21,7 @@ Leads (PairOf a b) (false ∷ cs) = Leads a cs
 Leads (PairOf a b) (true ∷ cs) = Leads b cs
 Leads (ArrayOf n t) cs = Leads t cs
 
-flat_element : (t : Ty) → IsElement t → IsFlat t
+flat_element : (t : Ty) → IsWords t → IsFlat t
 flat_element Scalar e = tt
 flat_element (PairOf a b) e = e
 flat_element (ArrayOf n t) e = absurd e
@@ -53,13 +53,13 @@ list_long Scalar v s (c ∷ cs) f l h = absurd l
 list_long (PairOf a b) v s [] f l h = absurd l
 list_long (PairOf a b) v s (false ∷ cs) f l h = ap (λ x. length (list_of x (map side_of (false ∷ cs)))) h.2 ∙ list_long a h.0 (λ ds. s (false ∷ ds)) cs (flat_element a f.0) l h.3 ∙ one a f.0
   where
-    one : (t : Ty) → IsElement t → size t ≡ 1
+    one : (t : Ty) → IsWords t → size t ≡ 1
     one Scalar e = refl
     one (PairOf a b) e = refl
     one (ArrayOf n t) e = absurd e
 list_long (PairOf a b) v s (true ∷ cs) f l h = ap (λ x. length (list_of x (map side_of (true ∷ cs)))) h.2 ∙ list_long b h.1 (λ ds. s (true ∷ ds)) cs (flat_element b f.1) l h.4 ∙ one b f.1
   where
-    one : (t : Ty) → IsElement t → size t ≡ 1
+    one : (t : Ty) → IsWords t → size t ≡ 1
     one Scalar e = refl
     one (PairOf a b) e = refl
     one (ArrayOf n t) e = absurd e
@@ -84,13 +84,13 @@ list_at Scalar v s (c ∷ cs) q f w h = absurd w
 list_at (PairOf a b) v s [] q f w h = absurd w
 list_at (PairOf a b) v s (false ∷ cs) q f w h = ap (λ x. get_or (list_of x (map side_of (false ∷ cs))) 0 0) h.2 ∙ ap (λ k. get_or (list_of h.0 (map side_of cs)) k 0) (first a cs q f.0 w) ∙ list_at a h.0 (λ ds. s (false ∷ ds)) cs q (flat_element a f.0) w h.3
   where
-    first : (t : Ty) (cs : List Bool) (q : List ℕ) → IsElement t → IsPosition t cs q → 0 ≡ flat t q
+    first : (t : Ty) (cs : List Bool) (q : List ℕ) → IsWords t → IsPosition t cs q → 0 ≡ flat t q
     first Scalar cs q e w = refl
     first (PairOf a b) cs q e w = refl
     first (ArrayOf n t) cs q e w = absurd e
 list_at (PairOf a b) v s (true ∷ cs) q f w h = ap (λ x. get_or (list_of x (map side_of (true ∷ cs))) 0 0) h.2 ∙ ap (λ k. get_or (list_of h.1 (map side_of cs)) k 0) (first b cs q f.1 w) ∙ list_at b h.1 (λ ds. s (true ∷ ds)) cs q (flat_element b f.1) w h.4
   where
-    first : (t : Ty) (cs : List Bool) (q : List ℕ) → IsElement t → IsPosition t cs q → 0 ≡ flat t q
+    first : (t : Ty) (cs : List Bool) (q : List ℕ) → IsWords t → IsPosition t cs q → 0 ≡ flat t q
     first Scalar cs q e w = refl
     first (PairOf a b) cs q e w = refl
     first (ArrayOf n t) cs q e w = absurd e

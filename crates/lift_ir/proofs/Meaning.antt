@@ -1,21 +1,82 @@
 -- A lowered term's value by position is the source value on nested lists.
-use Rattle.std.proofs.Common.{◌≡◌, ℕ, zero, suc, ◌+◌, ◌<◌, true, false, List, [], ◌∷◌, length, get_or, refl, sym, ap, ◌∙◌, subst, ⊎_elim, arith}
+use Rattle.std.proofs.Common.{Bool, ◌≡◌, ℕ, zero, suc, ◌+◌, ◌<◌, true, false, List, [], ◌∷◌, length, get_or, refl, sym, ap, ◌∙◌, subst, ⊎_elim, arith}
 use Rattle.std.proofs.lemmas.List.{get_or-map}
 use Rattle.std.specs.Prelude.{map}
 use Rattle.scalar_ops.specs.Operators.{apply_op, choose}
 use Rattle.lift_tree.specs.Tree as tree
 use Rattle.lift_tree.specs.Tree.{Tree}
-use Rattle.lift_tree.specs.Values.{Value, Word, members, array, word, first, second, nth}
+use Rattle.lift_tree.specs.Values.{Value, Word, Nil, More, members, array, word, first, second, nth}
 use Rattle.lift_tree.specs.Values as value
 use Rattle.lift_tree.specs.Lists.{fold_left, zip_with}
-use Rattle.lift_tree.specs.Meaning.{World, meaning}
-use Rattle.lift_tree.proofs.Members.{length-map}
-use Rattle.lift_ir.specs.Types.{Ty, Scalar, PairOf, ArrayOf}
-use Rattle.lift_ir.specs.Scalars.{Scalars, at_index, by_side, folded, scalars_of, HasScalars}
-use Rattle.lift_ir.specs.Terms.{LocalMemory, PrivateMemory, push, Term, Literal, Bound, Source, Apply, ApplyNumber, Select, Both, Project, Reshape, LetArray, LetElement, Map, Fold, Store, Copy, HasType}
+use Rattle.lift_tree.specs.Meaning.{World, meaning, on_lanes}
+use Rattle.lift_tree.proofs.Members.{members-array, length-map}
+use Rattle.lift_ir.specs.Types.{Ty, Scalar, PairOf, ArrayOf, four}
+use Rattle.lift_ir.specs.Scalars.{Scalars, in_lane, at_index, by_side, folded, scalars_of, HasScalars}
+use Rattle.lift_ir.specs.Terms.{LocalMemory, PrivateMemory, push, lane_type, SomeVector, Term, Literal, Bound, Source, Apply, ApplyNumber, ApplyLanes, DivideLanes, Select, Both, Project, Reshape, LetArray, LetElement, Map, Fold, Store, Copy, HasType}
 use Rattle.lift_ir.specs.Sources.{Lowers}
 use Rattle.lift_ir.proofs.Nested.{members_of, is_as}
 use Rattle.lift_ir.proofs.Positions.{laid_is}
+
+-- ---- lane by lane
+module _ (f : ℕ → ℕ → ℕ) where
+  abbrev In : Value → Value → Value
+  In a b = Word (f (word a) (word b))
+
+  zips_at : (xs ys : List Value) (i : ℕ) → i < length xs → i < length ys → get_or (zip_with In xs ys) i (Word 0) ≡ In (get_or xs i (Word 0)) (get_or ys i (Word 0))
+  zips_at [] ys i p q = absurd (omega arith)
+  zips_at (x ∷ xs) [] i p q = absurd (omega arith)
+  zips_at (x ∷ xs) (y ∷ ys) zero p q = refl
+  zips_at (x ∷ xs) (y ∷ ys) (suc i) p q = zips_at xs ys i (omega arith) (omega arith)
+
+  zips_long : (xs ys : List Value) → length xs ≡ length ys → length (zip_with In xs ys) ≡ length xs
+  zips_long [] ys e = refl
+  zips_long (x ∷ xs) [] e = absurd (omega arith)
+  zips_long (x ∷ xs) (y ∷ ys) e = ap suc (zips_long xs ys (omega arith))
+
+  both_lists : (x y : Value) (xs ys : List Value) → on_lanes f (array (x ∷ xs)) (array (y ∷ ys)) ≡ array (zip_with In (x ∷ xs) (y ∷ ys))
+  both_lists x y xs ys = ap (λ l. array (In x y ∷ l)) (ap (λ l. zip_with In l (members (array ys))) (members-array xs) ∙ ap (zip_with In xs) (members-array ys))
+
+  left_list : (x : Value) (n : ℕ) (xs : List Value) → on_lanes f (array (x ∷ xs)) (Word n) ≡ array (map (λ a. In a (Word n)) (x ∷ xs))
+  left_list x n xs = ap (λ l. array (In x (Word n) ∷ map (λ a. In a (Word n)) l)) (members-array xs)
+
+  right_list : (n : ℕ) (y : Value) (ys : List Value) → on_lanes f (Word n) (array (y ∷ ys)) ≡ array (map (λ b. In (Word n) b) (y ∷ ys))
+  right_list n y ys = ap (λ l. array (In (Word n) y ∷ map (λ b. In (Word n) b) l)) (members-array ys)
+
+  both_long : (xs ys : List Value) → length xs ≡ 4 → length ys ≡ 4 → on_lanes f (array xs) (array ys) ≡ array (zip_with In xs ys)
+  both_long [] ys k l = absurd (omega arith)
+  both_long (x ∷ xs) [] k l = absurd (omega arith)
+  both_long (x ∷ xs) (y ∷ ys) k l = both_lists x y xs ys
+
+  left_long : (xs : List Value) (n : ℕ) → length xs ≡ 4 → on_lanes f (array xs) (Word n) ≡ array (map (λ a. In a (Word n)) xs)
+  left_long [] n k = absurd (omega arith)
+  left_long (x ∷ xs) n k = left_list x n xs
+
+  right_long : (ys : List Value) (n : ℕ) → length ys ≡ 4 → on_lanes f (Word n) (array ys) ≡ array (map (λ b. In (Word n) b) ys)
+  right_long [] n k = absurd (omega arith)
+  right_long (y ∷ ys) n k = right_list n y ys
+
+  -- an operator on a vector and a vector, or a number that stands for one
+  lanes_are : (l r : Bool) (v u : Value) (s t : Scalars) → SomeVector l r → HasScalars (lane_type l) v s → HasScalars (lane_type r) u t
+      → HasScalars four (on_lanes f v u) (λ cs p. f (s [] (in_lane l p)) (t [] (in_lane r p)))
+  lanes_are false false v u s t some h k = absurd some
+  lanes_are true true v u s t some h k = (
+    zip_with In h.0 k.0,
+    ap (λ z. on_lanes f z u) h.1 ∙ ap (on_lanes f (array h.0)) k.1 ∙ both_long h.0 k.0 h.2 k.2,
+    zips_long h.0 k.0 (h.2 ∙ sym k.2) ∙ h.2,
+    λ i lt. zips_at h.0 k.0 i (let z = h.2 in omega arith) (let z = k.2 in omega arith) ∙ ap (λ z. In z (get_or k.0 i (Word 0))) (h.3 i lt) ∙ ap (λ z. In (Word (s [] (i ∷ []))) z) (k.3 i lt),
+  )
+  lanes_are true false v u s t some h k = (
+    map (λ a. In a (Word (t [] []))) h.0,
+    ap (λ z. on_lanes f z u) h.1 ∙ ap (on_lanes f (array h.0)) k ∙ left_long h.0 (t [] []) h.2,
+    length-map (λ a. In a (Word (t [] []))) h.0 ∙ h.2,
+    λ i lt. get_or-map (λ a. In a (Word (t [] []))) h.0 i (Word 0) (Word 0) (let z = h.2 in omega arith) ∙ ap (λ z. In z (Word (t [] []))) (h.3 i lt),
+  )
+  lanes_are false true v u s t some h k = (
+    map (λ b. In (Word (s [] [])) b) k.0,
+    ap (λ z. on_lanes f z u) h ∙ ap (on_lanes f (Word (s [] []))) k.1 ∙ right_long k.0 (s [] []) k.2,
+    length-map (λ b. In (Word (s [] [])) b) k.0 ∙ k.2,
+    λ i lt. get_or-map (λ b. In (Word (s [] [])) b) k.0 i (Word 0) (Word 0) (let z = k.2 in omega arith) ∙ ap (λ z. In (Word (s [] [])) z) (k.3 i lt),
+  )
 
 module _ {A : Type 0} (num : A → ℕ) (w : World) where
   is_value : (vs : List Value) (x y : Tree) (t : Ty) (s : Scalars) → x ≡ y → HasScalars t (meaning w vs y) s → HasScalars t (meaning w vs x) s
@@ -77,12 +138,26 @@ module _ {A : Type 0} (num : A → ℕ) (w : World) where
     means (Apply o a b) n x g vs sems u lo ok es =
         let p = means a n lo.1 g vs sems Scalar lo.5 ok.2 es in
         let q = means b n lo.2 g vs sems Scalar lo.6 ok.3 es in
-        is_value vs x _ u _ lo.3 (is_as Scalar u _ _ ok.0 (ap (λ k. Word (apply_op k (word (meaning w vs lo.1)) (word (meaning w vs lo.2)))) lo.4 ∙ ap (λ k. Word (apply_op o (word k) (word (meaning w vs lo.2)))) p ∙ ap (λ k. Word (apply_op o (scalars_of num sources sems a [] []) (word k))) q))
+        is_value vs x _ u _ lo.3 (is_as Scalar u _ _ ok.0 (ap (λ k. on_lanes (apply_op k) (meaning w vs lo.1) (meaning w vs lo.2)) lo.4 ∙ ap (λ k. on_lanes (apply_op o) k (meaning w vs lo.2)) p ∙ ap (λ k. on_lanes (apply_op o) (Word (scalars_of num sources sems a [] [])) k) q))
     means (ApplyNumber o m a) n x g vs sems u lo ok es =
         let p = means a n lo.0 g vs sems Scalar lo.2 ok.2 es in
         ⊎_elim
-        (λ e. is_value vs x _ u _ e.1 (is_as Scalar u _ _ ok.0 (ap (λ k. Word (apply_op k (word (meaning w vs lo.0)) m)) (sym e.0) ∙ ap (λ k. Word (apply_op o (word k) m)) p)))
-        (λ e. is_value vs x _ u _ e.1 (is_as Scalar u _ _ ok.0 (ap (λ k. Word (apply_op k (word (meaning w vs lo.0)) m)) (sym e.0) ∙ ap (λ k. Word (apply_op o (word k) m)) p)))
+        (λ e. is_value vs x _ u _ e.1 (is_as Scalar u _ _ ok.0 (ap (λ k. on_lanes (apply_op k) (meaning w vs lo.0) (Word m)) (sym e.0) ∙ ap (λ k. on_lanes (apply_op o) k (Word m)) p)))
+        (λ e. is_value vs x _ u _ e.1 (is_as Scalar u _ _ ok.0 (ap (λ k. on_lanes (apply_op k) (meaning w vs lo.0) (Word m)) (sym e.0) ∙ ap (λ k. on_lanes (apply_op o) k (Word m)) p)))
+        lo.1
+    means (ApplyLanes o l r a b) n x g vs sems u lo ok es =
+        let p = means a n lo.1 g vs sems (lane_type l) lo.5 ok.4 es in
+        let q = means b n lo.2 g vs sems (lane_type r) lo.6 ok.5 es in
+        is_value vs x _ u _ lo.3
+        (is_as four u _ _ ok.0
+        (subst (λ k. HasScalars four (on_lanes (apply_op k) (meaning w vs lo.1) (meaning w vs lo.2)) (scalars_of num sources sems (ApplyLanes o l r a b))) (sym lo.4)
+        (lanes_are (apply_op o) l r (meaning w vs lo.1) (meaning w vs lo.2) (scalars_of num sources sems a) (scalars_of num sources sems b) ok.3 p q)))
+    means (DivideLanes o m a) n x g vs sems u lo ok es =
+        let p = means a n lo.0 g vs sems four lo.2 ok.2 es in
+        let k = lanes_are (apply_op o) true false (meaning w vs lo.0) (Word m) (scalars_of num sources sems a) (λ cs q. m) tt p refl in
+        ⊎_elim
+        (λ e. is_value vs x _ u _ e.1 (is_as four u _ _ ok.0 (subst (λ z. HasScalars four (on_lanes (apply_op z) (meaning w vs lo.0) (Word m)) (scalars_of num sources sems (DivideLanes o m a))) e.0 k)))
+        (λ e. is_value vs x _ u _ e.1 (is_as four u _ _ ok.0 (subst (λ z. HasScalars four (on_lanes (apply_op z) (meaning w vs lo.0) (Word m)) (scalars_of num sources sems (DivideLanes o m a))) e.0 k)))
         lo.1
     means (Select c a b) n x g vs sems u lo ok es =
         let p = means c n lo.0 g vs sems Scalar lo.4 ok.1 es in

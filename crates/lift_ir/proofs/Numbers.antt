@@ -3,7 +3,7 @@
 use Rattle.std.proofs.Common.{◌≡◌, ℕ, zero, suc, ◌+◌, ◌-◌, ◌*◌, ◌/◌, ◌%◌, ◌<◌, Bool, true, false, List, [], ◌∷◌, refl, sym, ap, ◌∙◌, ⊎_elim, arith}
 use Rattle.std.proofs.lemmas.Bool.{cases_lt}
 use Rattle.std.proofs.Math.Nat.{mul-le-mul_right, mod-lt, div-lt_iff_lt-mul}
-use Rattle.lift_ir.specs.Types.{Ty, Scalar, PairOf, ArrayOf, IsPosition, IsElement, IsFlat, width, component, size, flat, unflat}
+use Rattle.lift_ir.specs.Types.{Ty, Scalar, PairOf, ArrayOf, IsPosition, IsWords, IsFlat, width, component, size, flat, unflat}
 use Rattle.lift_ir.proofs.Positions.{quotient, remainder, element_position, whole}
 
 pub component_below : (t : Ty) (cs : List Bool) (q : List ℕ) → IsPosition t cs q → component t cs < width t
@@ -59,7 +59,7 @@ unflat_flat (ArrayOf n t) cs (i ∷ q) f w =
     ∙ ap (λ x. i ∷ unflat t x) (remainder i (flat t q) (size t) lt)
     ∙ ap (λ x. i ∷ x) (unflat_flat t cs q f w.1)
 
-choose_at : (t : Ty) (a : ℕ) → IsElement t → a < width t → (cs : List Bool) × IsPosition t cs [] × (component t cs ≡ a)
+choose_at : (t : Ty) (a : ℕ) → IsWords t → a < width t → (cs : List Bool) × IsPosition t cs [] × (component t cs ≡ a)
 choose_at Scalar a e lt = ([], tt, omega arith)
 choose_at (PairOf x y) a e lt =
     ⊎_elim

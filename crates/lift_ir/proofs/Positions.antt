@@ -10,14 +10,14 @@ use Rattle.lift_tree.specs.Meaning.{rows, array_of_rows, World, meaning, product
 use Rattle.lift_tree.specs.Tree.{Tree}
 use Rattle.lift_tree.proofs.Members.{length-map, length-columns, length-padded}
 use Rattle.lift_tree.proofs.Strides.{rows_array, strided_through}
-use Rattle.lift_ir.specs.Types.{Ty, Scalar, PairOf, ArrayOf, IsPosition, IsElement}
+use Rattle.lift_ir.specs.Types.{Ty, Scalar, PairOf, ArrayOf, IsPosition, IsWords}
 use Rattle.lift_ir.specs.Layouts.{Layout, Split, Join, Transpose, Reverse, Slide, Pad, operand_position, Reshapes, result_position, IsInvertible}
 use Rattle.lift_ir.specs.Scalars.{at_index, Scalars, HasScalars}
 use Rattle.lift_ir.specs.Sources.{IsJoin, IsLayout}
 use Rattle.lift_ir.proofs.Nested.{at_padded, column_at, concat_at, concat_long, is_as, members_of, pieces_is, row_at, width_is}
 
 -- an element has one scalar a component
-pub element_position : (t : Ty) (cs : List Bool) (q : List ℕ) → IsElement t → IsPosition t cs q → q ≡ []
+pub element_position : (t : Ty) (cs : List Bool) (q : List ℕ) → IsWords t → IsPosition t cs q → q ≡ []
 element_position Scalar [] [] e w = refl
 element_position Scalar [] (i ∷ q) e w = absurd w
 element_position Scalar (c ∷ cs) q e w = absurd w
@@ -271,14 +271,18 @@ module _ {A : Type 0} (num : A → ℕ) (w : World) where
   joined vs x y i =
       ⊎_elim
       (λ e. ap (meaning w vs) e)
-      (λ s. ap (meaning w vs) s.2 ∙ stride_is (product_at w.sizes s.0) (members (meaning w vs s.1)) ∙ ap (λ z. array (concat (rows (meaning w vs z)))) (sym s.3))
+      (λ j. ⊎_elim (λ e. ap (meaning w vs) e) (λ s. ap (meaning w vs) s.2 ∙ stride_is (product_at w.sizes s.0) (members (meaning w vs s.1)) ∙ ap (λ z. array (concat (rows (meaning w vs z)))) (sym s.3)) j)
       i
 
   pub laid_is : (vs : List Value) (l : Layout A) (x y : Tree) (t u : Ty) (s : Scalars) → IsLayout num w x l y → Reshapes num l t u → HasScalars t (meaning w vs y) s → HasScalars u (meaning w vs x) (λ cs q. s cs (operand_position num l q))
   laid_is vs (Split m) x y (ArrayOf n t) u s i r h =
       let v = meaning w vs y in
-      subst (λ z. HasScalars u (meaning w vs z) (λ cs q. s cs (operand_position num (Split m) q))) (sym i.1)
-      (subst (λ k. HasScalars u (array_of_rows (pieces (length (members v) / k) k k (members v))) (λ cs q. s cs (operand_position num (Split m) q))) (sym i.2) (split_is num m n t u v s r h))
+      ⊎_elim
+      (λ i. subst (λ z. HasScalars u (meaning w vs z) (λ cs q. s cs (operand_position num (Split m) q))) (sym i.1)
+      (subst (λ k. HasScalars u (array_of_rows (pieces (length (members v) / k) k k (members v))) (λ cs q. s cs (operand_position num (Split m) q))) (sym i.2) (split_is num m n t u v s r h)))
+      (λ i. subst (λ z. HasScalars u (meaning w vs z) (λ cs q. s cs (operand_position num (Split m) q))) (sym i.0)
+      (subst (λ k. HasScalars u (array_of_rows (pieces (length (members v) / k) k k (members v))) (λ cs q. s cs (operand_position num (Split m) q))) i.1 (split_is num m n t u v s r h)))
+      i
   laid_is vs (Join m) x y (ArrayOf n (ArrayOf k t)) u s i r h = subst (λ z. HasScalars u z (λ cs q. s cs (operand_position num (Join m) q))) (sym (joined vs x y i)) (join_is num m n k t u (meaning w vs y) s r h)
   laid_is vs Transpose x y (ArrayOf n (ArrayOf m t)) u s i r h = subst (λ z. HasScalars u (meaning w vs z) (λ cs q. s cs (operand_position num Transpose q))) (sym i) (transpose_is num n m t u (meaning w vs y) s r h)
   laid_is vs (Reverse k) x y (ArrayOf n t) u s i r h = subst (λ z. HasScalars u (meaning w vs z) (λ cs q. s cs (operand_position num (Reverse k) q))) (sym i) (reverse_is num k n t u (meaning w vs y) s r h)

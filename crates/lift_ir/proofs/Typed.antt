@@ -1,9 +1,11 @@
 -- A typed term's lowered term has its type at each admissible launch.
-use Rattle.std.proofs.Common.{◌≡◌, ℕ, zero, suc, Bool, true, false, List, [], ◌∷◌, Some, refl, sym, ap, ◌∙◌, subst, pos, ◌≤ℤ◌}
+use Rattle.std.proofs.Common.{◌≡◌, ◌<◌, ℕ, zero, suc, Bool, true, false, List, [], ◌∷◌, Some, refl, sym, ap, ◌∙◌, subst, pos, ◌≤ℤ◌}
 use Rattle.std.specs.Prelude.{slice_get, if◌then◌else◌}
 use Rattle.size_arith.specs.declared.poly.Monomial.{Monomial}
 use Rattle.size_arith.specs.Polynomial.{value_at}
 use Rattle.size_arith.specs.Shown.{ShownAtLeast}
+use Rattle.scalar_ops.specs.declared.op.Op.{Op}
+use Rattle.scalar_ops.specs.declared.op.Op.TheVariants as op
 use Rattle.scalar_ops.specs.declared.op.Reducer.TheVariants as reducer
 use Rattle.lift_tree.specs.declared.term.Operator.{Operator}
 use Rattle.lift_tree.specs.declared.term.Operator.TheVariants as operator
@@ -15,15 +17,15 @@ use Rattle.lift_tree.specs.Tree.{Tree}
 use Rattle.lift_tree.specs.Types as types
 use Rattle.lift_tree.specs.Types.{PlainTy, IsFormed}
 use Rattle.lift_tree.specs.Meaning.{scalar_op}
-use Rattle.lift_tree.specs.Typing.{Declared, constant}
+use Rattle.lift_tree.specs.Typing.{Declared, IsNumeric, OperatorRow, is_lane_operator, constant}
 use Rattle.lift_tree.specs.Annotations.{Annotation, Leaf, One, Two, Three, type_in, Annotates}
 use Rattle.lift_tree.proofs.Formed.{formed_in}
 use Rattle.lift_tree.proofs.Sizes.{value-constant}
 use Rattle.kernel_tree.specs.Formula.{divides}
-use Rattle.lift_ir.specs.Types.{Ty, PairOf, ArrayOf, IsElement, IsFlat}
-use Rattle.lift_ir.specs.Terms.{LoadsScalars, Term, HasType, push}
+use Rattle.lift_ir.specs.Types.{Ty, PairOf, ArrayOf, IsWords, IsElement, IsFlat}
+use Rattle.lift_ir.specs.Terms.{LoadsScalars, Term, HasType, push, acts_on_lanes}
 use Rattle.lift_ir.specs.AtLaunch.{natural, length_at, ty_at, outer_of, types_at}
-use Rattle.lift_ir.specs.Lowering.{Place, Written, Argument, Element, element_ty, is_element, element_of, Lowered, placed, named, operand_place, value_place, body_place, lower_let, placed_element, lower}
+use Rattle.lift_ir.specs.Lowering.{Place, Written, Argument, Element, element_ty, is_element, element_of, Lowered, is_vector, divided, applied, placed, named, operand_place, value_place, body_place, lower_let, placed_element, lower}
 use Rattle.lift_ir.specs.Lowerable.{SuitsPlace, IsLowerable}
 use Rattle.lift_ir.proofs.AtLaunch.{layout_typed, slide_reshapes, pad_reshapes}
 use Rattle.lift_ir.proofs.Lowering.{suits_named}
@@ -42,13 +44,41 @@ no_division operator.Shr = refl
 no_division operator.Lt = refl
 no_division operator.Eq = refl
 
+acts : (o : Operator) → is_lane_operator o ≡ true → acts_on_lanes (scalar_op o) ≡ true
+acts (operator.Regrouping reducer.Add) h = refl
+acts (operator.Regrouping reducer.Mul) h = refl
+acts (operator.Regrouping reducer.Min) h = refl
+acts (operator.Regrouping reducer.Max) h = refl
+acts (operator.Regrouping reducer.And) h = refl
+acts (operator.Regrouping reducer.Or) h = refl
+acts (operator.Regrouping reducer.Xor) h = refl
+acts operator.Sub h = refl
+acts operator.Shl h = refl
+acts operator.Shr h = refl
+acts operator.Lt h = absurd (cc)
+acts operator.Eq h = absurd (cc)
+
+pub numeric_element : (a : PlainTy) → IsNumeric a → types.IsElement a
+numeric_element types.U32 h = tt
+numeric_element types.U32x4 h = tt
+numeric_element _ h = absurd (assumption)
+
+pub operator_element : (o : Operator) (b c a : PlainTy) → OperatorRow o b c a → types.IsElement a
+operator_element o types.U32 types.U32 a r = subst types.IsElement (sym r) tt
+operator_element o types.U32 types.U32x4 a r = subst types.IsElement (sym r.1) tt
+operator_element o types.U32x4 types.U32 a r = subst types.IsElement (sym r.1) tt
+operator_element o types.U32x4 types.U32x4 a r = subst types.IsElement (sym r.1) tt
+operator_element o _ _ a r = absurd (assumption)
+
 pub element_same : (ys : List ℕ) (a : PlainTy) → types.IsElement a → ty_at ys a ≡ element_ty a
 element_same ys types.U32 h = refl
+element_same ys types.U32x4 h = refl
 element_same ys (types.PairOf a b) h = (let x = element_same ys a h.0 in let y = element_same ys b h.1 in ap (λ z. PairOf z (ty_at ys b)) x ∙ ap (λ z. PairOf (element_ty a) z) y)
 element_same ys (types.ArrayOf a n) h = absurd h
 
 element_is : (a : PlainTy) → types.IsElement a → IsElement (element_ty a)
 element_is types.U32 h = tt
+element_is types.U32x4 h = (refl, refl)
 element_is (types.PairOf a b) h = (element_is a h.0, element_is b h.1)
 element_is (types.ArrayOf a n) h = absurd h
 
@@ -58,6 +88,7 @@ both_told false y f g e = absurd (cc)
 
 pub told : (a : PlainTy) → is_element a ≡ true → types.IsElement a
 told types.U32 e = tt
+told types.U32x4 e = tt
 told (types.PairOf a b) e = both_told (is_element a) (is_element b) (told a) (told b) e
 told (types.ArrayOf a n) e = absurd (cc)
 
@@ -113,14 +144,30 @@ module _ (d : Declared) (bases : List ℕ) (shown : (k : ℕ) (p : List Monomial
   length_is : (b x : PlainTy) (l : List Monomial) → b ≡ types.ArrayOf x l → num l ≡ num (outer_of b)
   length_is b x l e = subst (λ z. num l ≡ num (outer_of z)) (sym e) refl
 
+  -- a quotient or remainder by a number
+  has_divided : (g : List PlainTy) (o : Op) (m : ℕ) (x : Lowered) (a b : PlainTy) → 0 < m → IsNumeric b → a ≡ b → Is g x (ty b) → Is g (divided (is_vector a) o m x) (ty a)
+  has_divided g o m x a b some h e k = subst (λ z. Is g (divided (is_vector z) o m x) (ty z)) (sym e) (go b h k)
+    where
+      go : (c : PlainTy) → IsNumeric c → Is g x (ty c) → Is g (divided (is_vector c) o m x) (ty c)
+      go types.U32 h k = (refl, some, k)
+      go types.U32x4 h k = (refl, some, k)
+      go _ h k = absurd (assumption)
+
+  has_applied : (g : List PlainTy) (o : Operator) (x y : Lowered) (b c a : PlainTy) → OperatorRow o b c a → Is g x (ty b) → Is g y (ty c) → Is g (applied (is_vector a) (is_vector b) (is_vector c) (scalar_op o) x y) (ty a)
+  has_applied g o x y types.U32 types.U32 a r h k = subst (λ z. Is g (applied (is_vector z) false false (scalar_op o) x y) (ty z)) (sym r) (refl, no_division o, h, k)
+  has_applied g o x y types.U32 types.U32x4 a r h k = subst (λ z. Is g (applied (is_vector z) false true (scalar_op o) x y) (ty z)) (sym r.1) (refl, no_division o, acts o r.0, tt, h, k)
+  has_applied g o x y types.U32x4 types.U32 a r h k = subst (λ z. Is g (applied (is_vector z) true false (scalar_op o) x y) (ty z)) (sym r.1) (refl, no_division o, acts o r.0, tt, h, k)
+  has_applied g o x y types.U32x4 types.U32x4 a r h k = subst (λ z. Is g (applied (is_vector z) true true (scalar_op o) x y) (ty z)) (sym r.1) (refl, no_division o, acts o r.0, tt, h, k)
+  has_applied g o x y _ _ a r h k = absurd (assumption)
+
   pub has_is : (t : Tree) (p : Place) (g : List PlainTy) (a : Annotation) → Every (IsFormed d.names) g → Annotates d g t a → IsLowerable bases p t a → Is g (lower d.names p t a) (ty (type_in a))
   has_is (tree.Variable v) p g (Leaf a) all h l = has_put g p a _ l (typed_at bases g v a h)
   has_is (tree.Number c) p g (Leaf a) all h l = has_put g p a _ (in_place p a (subst types.IsElement (sym h.1) tt)) (ap ty h.1)
   has_is (tree.Input i) p g (Leaf a) all h l = sourced i a h
   has_is (tree.Unary (unary.Div m) t) p g (One a x) all h l =
-      has_put g p a _ (in_place p a (subst types.IsElement (sym h.1.2) tt)) (ap ty h.1.2, h.1.0, subst (λ z. Is g (lower d.names Element t x) (ty z)) h.1.1 (has_is t Element g x all h.0 l.3))
+      has_put g p a _ (in_place p a (subst types.IsElement (sym h.1.2) (numeric_element (type_in x) h.1.1))) (has_divided g op.Div m (lower d.names Element t x) a (type_in x) h.1.0 h.1.1 h.1.2 (has_is t Element g x all h.0 l.3))
   has_is (tree.Unary (unary.Rem m) t) p g (One a x) all h l =
-      has_put g p a _ (in_place p a (subst types.IsElement (sym h.1.2) tt)) (ap ty h.1.2, h.1.0, subst (λ z. Is g (lower d.names Element t x) (ty z)) h.1.1 (has_is t Element g x all h.0 l.3))
+      has_put g p a _ (in_place p a (subst types.IsElement (sym h.1.2) (numeric_element (type_in x) h.1.1))) (has_divided g op.Rem m (lower d.names Element t x) a (type_in x) h.1.0 h.1.1 h.1.2 (has_is t Element g x all h.0 l.3))
   has_is (tree.Unary unary.First t) p g (One a x) all h l =
       has_put g p a _ l.2 (ty h.1.0, subst (λ z. Is g (lower d.names (operand_place unary.First p) t x) (ty z)) h.1.1 (has_is t (operand_place unary.First p) g x all h.0 l.3))
   has_is (tree.Unary unary.Second t) p g (One a x) all h l =
@@ -137,8 +184,8 @@ module _ (d : Declared) (bases : List ℕ) (shown : (k : ℕ) (p : List Monomial
       (l.2.1, l.2.0, subst (λ z. Is g (lower d.names Written t x) (ty z)) h.1 (has_is t Written g x all h.0 l.3))
   has_is (tree.Unary unary.Then t) p g (One a x) all h l = absurd l.2
   has_is (tree.Binary (binary.Operator o) t u) p g (Two a x y) all h l =
-      has_put g p a _ (in_place p a (subst types.IsElement (sym h.2.2) tt))
-      (ap ty h.2.2, no_division o, subst (λ z. Is g (lower d.names Element t x) (ty z)) h.2.0 (has_is t Element g x all h.0 l.1), subst (λ z. Is g (lower d.names Element u y) (ty z)) h.2.1 (has_is u Element g y all h.1 l.2))
+      has_put g p a _ (in_place p a (operator_element o (type_in x) (type_in y) a h.2))
+      (has_applied g o (lower d.names Element t x) (lower d.names Element u y) (type_in x) (type_in y) a h.2 (has_is t Element g x all h.0 l.1) (has_is u Element g y all h.1 l.2))
   has_is (tree.Binary binary.Pair t u) p g (Two a x y) all h l =
       let i = h.2.0 in
       let j = h.2.1 in
@@ -194,12 +241,19 @@ module _ (d : Declared) (bases : List ℕ) (shown : (k : ℕ) (p : List Monomial
       )
   has_is _ p g _ all h l = absurd h
 
+words_at : (ys : List ℕ) (a : PlainTy) → types.AreNumbers a → IsWords (ty_at ys a)
+words_at ys types.U32 h = tt
+words_at ys (types.PairOf a b) h = (words_at ys a h.0, words_at ys b h.1)
+words_at ys _ h = absurd (assumption)
+
 pub flat_at : (ys : List ℕ) (a : PlainTy) → types.HoldsElements a → IsFlat (ty_at ys a)
 flat_at ys types.U32 h = tt
-flat_at ys (types.PairOf a b) h = (subst IsElement (sym (element_same ys a h.0)) (element_is a h.0), subst IsElement (sym (element_same ys b h.1)) (element_is b h.1))
+flat_at ys types.U32x4 h = tt
+flat_at ys (types.PairOf a b) h = (words_at ys a h.0, words_at ys b h.1)
 flat_at ys (types.ArrayOf a n) h = flat_at ys a h
 
 pub output_flat : (ys : List ℕ) (a : PlainTy) → types.IsOutput a → IsFlat (ty_at ys a)
 output_flat ys types.U32 h = absurd h
+output_flat ys types.U32x4 h = absurd h
 output_flat ys (types.PairOf a b) h = absurd h
 output_flat ys (types.ArrayOf a n) h = flat_at ys a h

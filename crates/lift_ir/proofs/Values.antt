@@ -11,13 +11,15 @@ use Rattle.lift_tree.specs.Values as value
 use Rattle.lift_tree.specs.Limits.{components}
 use Rattle.lift_tree.specs.Launches as launches
 use Rattle.lift_tree.proofs.Members.{members-array}
-use Rattle.lift_ir.specs.Types.{PairOf, ArrayOf, choices_of, measured}
+use Rattle.lift_tree.proofs.Sizes.{value-constant}
+use Rattle.lift_ir.specs.Types.{Scalar, PairOf, ArrayOf, choices_of, measured}
 use Rattle.lift_ir.specs.Scalars.{HasScalars, scalars_in, side_of, lists_of}
 use Rattle.lift_ir.specs.AtLaunch.{natural, length_at, ty_at, shape_of}
 
 -- a type of the source, and its shape at a launch
 pub shape_is : (ys : List ℕ) (a : PlainTy) → measured (length_at ys) (shape_of a) ≡ ty_at ys a
 shape_is ys types.U32 = refl
+shape_is ys types.U32x4 = ap (λ n. ArrayOf (natural n) Scalar) (value-constant ys 4)
 shape_is ys (types.PairOf a b) = ap (λ z. PairOf z (measured (length_at ys) (shape_of b))) (shape_is ys a) ∙ ap (λ z. PairOf (ty_at ys a) z) (shape_is ys b)
 shape_is ys (types.ArrayOf a n) = ap (λ z. ArrayOf (length_at ys n) z) (shape_is ys a)
 
@@ -29,6 +31,14 @@ every_at P (x ∷ xs) (suc i) d h lt = every_at P xs i d h.1 (omega arith)
 -- a value of a type has its scalars
 pub has_scalars : (ys : List ℕ) (a : PlainTy) (v : Value) → types.HasType ys a v → HasScalars (ty_at ys a) v (scalars_in (ty_at ys a) v)
 has_scalars ys types.U32 v h = h.1 ∙ ap (λ z. Word (value.word z)) (sym h.1)
+has_scalars ys types.U32x4 v h = (
+  h.0,
+  h.1,
+  h.2,
+  λ i lt.
+      let n = every_at types.IsNumber h.0 i (Word 0) h.3 (subst (λ n. i < n) (sym h.2) lt) in
+      n.1 ∙ ap (λ z. Word (value.word z)) (sym n.1) ∙ ap (λ xs. Word (value.word (get_or xs i (Word 0)))) (sym (ap value.members h.1 ∙ members-array h.0)),
+)
 has_scalars ys (types.PairOf a b) v h = (
   h.0,
   h.1,
@@ -48,6 +58,7 @@ has_scalars ys (types.ArrayOf a n) v h = (
 -- the ways to the components are the pair choices
 components_are : (ys : List ℕ) (a : PlainTy) → components a ≡ map (map side_of) (choices_of (ty_at ys a))
 components_are ys types.U32 = refl
+components_are ys types.U32x4 = refl
 components_are ys (types.PairOf a b) =
     ap (λ z. map (λ c. Left ∷ c) z ++ map (λ c. Right ∷ c) (components b)) (components_are ys a)
     ∙ ap (λ z. map (λ c. Left ∷ c) (map (map side_of) (choices_of (ty_at ys a))) ++ map (λ c. Right ∷ c) z) (components_are ys b)

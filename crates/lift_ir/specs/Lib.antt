@@ -9,4 +9,5 @@ pub mod Lowerable
 pub mod Loads
 pub mod Forms
 pub mod Owner
+pub mod Fours
 pub mod Promises

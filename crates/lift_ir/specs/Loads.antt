@@ -1,13 +1,14 @@
 -- Which scalars are in private variables, and that those which element terms name are.
 use Rattle.std.specs.Prelude.{◌≡◌, ◌<◌, ◌^◌, ℕ, Bool, true, false, List, [], ◌∷◌}
-use Rattle.lift_ir.specs.Types.{Ty, IsPosition, size, IsShort}
-use Rattle.lift_ir.specs.Terms.{LoadSet, Skip, Take, Each, Term, Literal, Bound, Apply, ApplyNumber, Select, Both, Project, Reshape, LetArray, LetElement, Map, Fold, Store, Copy, push}
+use Rattle.lift_ir.specs.Types.{Ty, IsPart, size, IsShort}
+use Rattle.lift_ir.specs.Terms.{LoadSet, Skip, Take, TakeFour, Each, Term, Literal, Bound, Apply, ApplyNumber, ApplyLanes, DivideLanes, Select, Both, Project, Reshape, LetArray, LetElement, Map, Fold, Store, Copy, push}
 use Rattle.lift_ir.specs.Scalars.{by_side}
 
 -- the scalar at these pair choices is loaded
 abbrev pub covers : LoadSet → List Bool → Bool
 covers Skip cs = false
 covers Take cs = true
+covers TakeFour cs = true
 covers (Each a b) [] = false
 covers (Each a b) (false ∷ cs) = covers a cs
 covers (Each a b) (true ∷ cs) = covers b cs
@@ -26,6 +27,8 @@ IsHeld h (Literal c) cs = Unit {0}
 IsHeld h (Bound v) cs = h v cs ≡ true
 IsHeld h (Apply o a b) cs = IsHeld h a [] × IsHeld h b []
 IsHeld h (ApplyNumber o n a) cs = IsHeld h a []
+IsHeld h (ApplyLanes o l r a b) cs = IsHeld h a [] × IsHeld h b []
+IsHeld h (DivideLanes o n a) cs = IsHeld h a []
 IsHeld h (Select c a b) cs = IsHeld h c [] × IsHeld h a [] × IsHeld h b []
 IsHeld h (Both zips a b) [] = Unit {0}
 IsHeld h (Both zips a b) (false ∷ cs) = IsHeld h a cs
@@ -36,7 +39,7 @@ IsHeld h _ cs = ⊥
 
 -- each component of an element term of this type hangs on variables alone
 abbrev pub AllHeld : {A : Type 0} → (ℕ → List Bool → Bool) → Ty → Term A → Type 0
-AllHeld h ty t = (cs : List Bool) → IsPosition ty cs [] → IsHeld h t cs
+AllHeld h ty t = (cs : List Bool) → IsPart ty cs → IsHeld h t cs
 
 -- and so do the lets in it
 abbrev pub AreLetsHeld : {A : Type 0} → (ℕ → List Bool → Bool) → Term A → Type 0
@@ -44,6 +47,8 @@ AreLetsHeld h (Literal c) = Unit {0}
 AreLetsHeld h (Bound v) = Unit {0}
 AreLetsHeld h (Apply o a b) = AreLetsHeld h a × AreLetsHeld h b
 AreLetsHeld h (ApplyNumber o n a) = AreLetsHeld h a
+AreLetsHeld h (ApplyLanes o l r a b) = AreLetsHeld h a × AreLetsHeld h b
+AreLetsHeld h (DivideLanes o n a) = AreLetsHeld h a
 AreLetsHeld h (Select c a b) = AreLetsHeld h c × AreLetsHeld h a × AreLetsHeld h b
 AreLetsHeld h (Both zips a b) = AreLetsHeld h a × AreLetsHeld h b
 AreLetsHeld h (Project s a) = AreLetsHeld h a

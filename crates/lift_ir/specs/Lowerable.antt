@@ -80,6 +80,7 @@ IsElementTerm _ n = ⊥
 -- arrays alone, and pairs of these
 abbrev pub HoldsNoScalar : PlainTy → Type 0
 HoldsNoScalar types.U32 = ⊥
+HoldsNoScalar types.U32x4 = ⊥
 HoldsNoScalar (types.PairOf a b) = HoldsNoScalar a × HoldsNoScalar b
 HoldsNoScalar (types.ArrayOf a n) = Unit {0}
 

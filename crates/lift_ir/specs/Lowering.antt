@@ -1,5 +1,6 @@
 -- From typed terms of the source to terms whose lengths are polynomials.
 use Rattle.std.specs.Prelude.{ℕ, suc, Bool, true, false, List, [], ◌∷◌, if◌then◌else◌, nat_eq}
+use Rattle.scalar_ops.specs.declared.op.Op.{Op}
 use Rattle.scalar_ops.specs.declared.op.Op.TheVariants.{Div, Rem}
 use Rattle.size_arith.specs.declared.names.Name.{Name}
 use Rattle.size_arith.specs.declared.poly.Monomial.{Monomial}
@@ -21,9 +22,9 @@ use Rattle.lift_tree.specs.Types.{PlainTy}
 use Rattle.lift_tree.specs.Meaning.{scalar_op}
 use Rattle.lift_tree.specs.WorkedOut.{product_of}
 use Rattle.lift_tree.specs.Annotations.{Annotation, One, Two, Three, type_in}
-use Rattle.lift_ir.specs.Types.{Ty, Scalar, PairOf}
+use Rattle.lift_ir.specs.Types.{Ty, Scalar, PairOf, four}
 use Rattle.lift_ir.specs.Layouts.{Split, Join, Transpose}
-use Rattle.lift_ir.specs.Terms.{LoadSet, Skip, Take, Each, Kind, Global, WorkGroup, Local, GlobalRows, WorkGroupRows, LocalRows, Sequential, LocalMemory, PrivateMemory, Term, Literal, Bound, Source, Apply, ApplyNumber, Select, Both, Project, Reshape, LetArray, LetElement, Map, Fold, Store, Copy}
+use Rattle.lift_ir.specs.Terms.{LoadSet, Skip, Take, TakeFour, Each, Kind, Global, WorkGroup, Local, GlobalRows, WorkGroupRows, LocalRows, Sequential, LocalMemory, PrivateMemory, Term, Literal, Bound, Source, Apply, ApplyNumber, ApplyLanes, DivideLanes, Select, Both, Project, Reshape, LetArray, LetElement, Map, Fold, Store, Copy}
 use Rattle.lift_ir.specs.AtLaunch.{ty_at, outer_of, layout_of}
 
 -- what a term stands for where it is: it is written, it is an argument, or an element is worked out
@@ -33,12 +34,14 @@ pub data Place : Type 0 where
 -- an element type has no lengths
 abbrev pub element_ty : PlainTy → Ty
 element_ty types.U32 = Scalar
+element_ty types.U32x4 = four
 element_ty (types.PairOf a b) = PairOf (element_ty a) (element_ty b)
 element_ty (types.ArrayOf a n) = Scalar
 
--- numbers, and pairs of these
+-- numbers, vectors, and pairs of these
 abbrev pub is_element : PlainTy → Bool
 is_element types.U32 = true
+is_element types.U32x4 = true
 is_element (types.PairOf a b) = if is_element a then is_element b else false
 is_element (types.ArrayOf a n) = false
 
@@ -66,6 +69,7 @@ kind_of map_kind.Sequential = Sequential
 -- all scalars of an element of this type
 abbrev pub all_scalars : PlainTy → LoadSet
 all_scalars types.U32 = Take
+all_scalars types.U32x4 = TakeFour
 all_scalars (types.PairOf a b) = Each (all_scalars a) (all_scalars b)
 all_scalars (types.ArrayOf a n) = Skip
 
@@ -80,8 +84,10 @@ reached _ (c ∷ p) = Skip
 abbrev pub merged : LoadSet → LoadSet → LoadSet
 merged Skip y = y
 merged Take y = Take
+merged TakeFour y = TakeFour
 merged (Each a b) Skip = Each a b
 merged (Each a b) Take = Take
+merged (Each a b) TakeFour = TakeFour
 merged (Each a b) (Each c d) = Each (merged a c) (merged b d)
 
 -- what a term, below this chain of first and second, names of the binder v of this type
@@ -122,10 +128,25 @@ lower_stride names fs b t =
     Reshape (Join (quotient step (outer_of b)))
     (Reshape Transpose (Reshape (Split (of_monomial step)) t))
 
+-- a vector's type
+abbrev pub is_vector : PlainTy → Bool
+is_vector types.U32x4 = true
+is_vector _ = false
+
+-- a quotient or remainder of type a by a number
+abbrev pub divided : (vector : Bool) → Op → ℕ → Lowered → Lowered
+divided false o n t = ApplyNumber o n t
+divided true o n t = DivideLanes o n t
+
+-- an operator of type a on operands of types b and c
+abbrev pub applied : (vector left right : Bool) → Op → (t u : Lowered) → Lowered
+applied false l r o t u = Apply o t u
+applied true l r o t u = ApplyLanes o l r t u
+
 -- a form of type a over an operand of type b
 abbrev pub lower_unary : List Name → Place → UnaryForm → (a b : PlainTy) → Lowered → Lowered
-lower_unary names p (unary.Div n) a b t = placed p a (ApplyNumber Div n t)
-lower_unary names p (unary.Rem n) a b t = placed p a (ApplyNumber Rem n t)
+lower_unary names p (unary.Div n) a b t = placed p a (divided (is_vector a) Div n t)
+lower_unary names p (unary.Rem n) a b t = placed p a (divided (is_vector a) Rem n t)
 lower_unary names p unary.First a b t = placed p a (Project false t)
 lower_unary names p unary.Second a b t = placed p a (Project true t)
 lower_unary names p unary.ToPrivate a b t = Copy PrivateMemory (ty_at [] a) t
@@ -139,12 +160,13 @@ abbrev pub binary_place : BinaryForm → Place
 binary_place binary.Zip = Argument
 binary_place _ = Element
 
--- a form of type a over two operands
-abbrev pub lower_binary : Place → BinaryForm → PlainTy → (t u : Lowered) → Lowered
-lower_binary p (binary.Operator o) a t u = placed p a (Apply (scalar_op o) t u)
-lower_binary p binary.Pair a t u = placed p a (Both false t u)
-lower_binary p binary.Zip a t u = Both true t u
-lower_binary p (binary.Reduce r) a t u = Literal 0
+-- a form of type a over operands of types b and c
+abbrev pub lower_binary : Place → BinaryForm → (a b c : PlainTy) → (t u : Lowered) → Lowered
+lower_binary p (binary.Operator o) a b c t u =
+    placed p a (applied (is_vector a) (is_vector b) (is_vector c) (scalar_op o) t u)
+lower_binary p binary.Pair a b c t u = placed p a (Both false t u)
+lower_binary p binary.Zip a b c t u = Both true t u
+lower_binary p (binary.Reduce r) a b c t u = Literal 0
 
 -- where a let's value stands: an element is set, an array is let
 abbrev pub value_place : Annotation → Place
@@ -173,7 +195,8 @@ lower names p (tree.Input i) n = Source i
 lower names p (tree.Unary f t) (One a n) =
     lower_unary names p f a (type_in n) (lower names (operand_place f p) t n)
 lower names p (tree.Binary f t u) (Two a n m) =
-    lower_binary p f a (lower names (binary_place f) t n) (lower names (binary_place f) u m)
+    lower_binary p f a (type_in n) (type_in m) (lower names (binary_place f) t n)
+    (lower names (binary_place f) u m)
 lower names p (tree.Select t u v) (Three a n m k) =
     placed p a
     (Select (lower names Element t n) (lower names Element u m) (lower names Element v k))

@@ -23,8 +23,8 @@ local_row_owner num l (Map LocalRows n loads xs b) (j ∷ q) = j % l.local.1
 local_row_owner num l _ q = 0
 
 -- in which column of the launch: under a global map's index i in the one of number i mod G, where a
--- row of the launch has G; under a work-group map's index i in one of the groups of number i mod the
--- count of groups in a row; with no parallel map in the first
+-- row of the launch has G; under a work-group map's index i in one of the groups of number i mod
+-- the count of groups in a row; with no parallel map in the first
 abbrev pub column_owner : {A : Type 0} → (A → ℕ) → Launch → Term A → List ℕ → ℕ
 column_owner num l (Reshape y t) q = column_owner num l t (operand_position num y q)
 column_owner num l (LetArray v b) q = column_owner num l b q

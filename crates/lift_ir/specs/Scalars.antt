@@ -7,7 +7,7 @@ use Rattle.lift_tree.specs.Values.{Value, Word, array, list_of, members, word, f
 use Rattle.lift_tree.specs.Values as value
 use Rattle.lift_ir.specs.Types.{Ty, Scalar, PairOf, ArrayOf, IsPosition, choices_of, component, flat}
 use Rattle.lift_ir.specs.Layouts.{operand_position}
-use Rattle.lift_ir.specs.Terms.{Term, Literal, Bound, Source, Apply, ApplyNumber, Select, Both, Project, Reshape, LetArray, LetElement, Map, Fold, Store, Copy, push}
+use Rattle.lift_ir.specs.Terms.{Term, Literal, Bound, Source, Apply, ApplyNumber, ApplyLanes, DivideLanes, Select, Both, Project, Reshape, LetArray, LetElement, Map, Fold, Store, Copy, push}
 
 -- a value: its scalars, by pair choices and indices
 abbrev pub Scalars : Type 0
@@ -38,6 +38,11 @@ abbrev pub single : Scalars → Scalars
 single x cs [] = 0
 single x cs (i ∷ q) = x cs q
 
+-- where a lane's scalar of an operand is: a number has one for all lanes
+abbrev pub in_lane : (vector : Bool) → List ℕ → List ℕ
+in_lane true p = p
+in_lane false p = []
+
 -- a term's scalars at a launch, where the inputs and the binders have these
 abbrev pub scalars_of : {A : Type 0} → (A → ℕ) → (ℕ → Scalars) → (ℕ → Scalars) → Term A → Scalars
 scalars_of num ins env (Literal n) = λ cs p. n
@@ -46,6 +51,10 @@ scalars_of num ins env (Source a) = ins a
 scalars_of num ins env (Apply o a b) =
     λ cs p. apply_op o (scalars_of num ins env a [] []) (scalars_of num ins env b [] [])
 scalars_of num ins env (ApplyNumber o n a) = λ cs p. apply_op o (scalars_of num ins env a [] []) n
+scalars_of num ins env (ApplyLanes o l r a b) =
+    λ cs p. apply_op o (scalars_of num ins env a [] (in_lane l p))
+    (scalars_of num ins env b [] (in_lane r p))
+scalars_of num ins env (DivideLanes o n a) = λ cs p. apply_op o (scalars_of num ins env a [] p) n
 scalars_of num ins env (Select c a b) =
     λ cs p. choose (scalars_of num ins env c [] []) (scalars_of num ins env a [] [])
     (scalars_of num ins env b [] [])

@@ -12,12 +12,13 @@ use Rattle.lift_tree.specs.Tree as tree
 use Rattle.lift_tree.specs.Tree.{Tree}
 use Rattle.lift_tree.specs.Meaning.{World, product_at, scalar_op}
 use Rattle.lift_ir.specs.Layouts.{Layout, Split, Join, Transpose, Reverse, Slide, Pad}
-use Rattle.lift_ir.specs.Terms.{LocalMemory, PrivateMemory, Term, Literal, Bound, Source, Apply, ApplyNumber, Select, Both, Project, Reshape, LetArray, LetElement, Map, Fold, Store, Copy}
+use Rattle.lift_ir.specs.Terms.{LocalMemory, PrivateMemory, Term, Literal, Bound, Source, Apply, ApplyNumber, ApplyLanes, DivideLanes, Select, Both, Project, Reshape, LetArray, LetElement, Map, Fold, Store, Copy}
 
--- a join, or a stride, which is the join of its split's transposition
+-- a join, also of vectors, or a stride, which is the join of its split's transposition
 abbrev pub IsJoin : Tree → Tree → Type 0
 IsJoin t u =
     (t ≡ tree.Unary (unary.Layout layout.Join) u)
+    ⊎ (t ≡ tree.Unary (unary.Layout layout.AsScalar) u)
     ⊎
     ((fs : List Factor) × (x : Tree) × (t ≡ tree.Unary (unary.Layout (layout.Stride fs)) x)
     ×
@@ -29,8 +30,9 @@ module _ {A : Type 0} (num : A → ℕ) (w : World) where
   -- what a layout is lowered from; sizes are worked out
   abbrev pub IsLayout : Tree → Layout A → Tree → Type 0
   IsLayout t (Split m) u =
-      (fs : List Factor) × (t ≡ tree.Unary (unary.Layout (layout.Split fs)) u)
-      × (product_at w.sizes fs ≡ num m)
+      ((fs : List Factor) × (t ≡ tree.Unary (unary.Layout (layout.Split fs)) u)
+      × (product_at w.sizes fs ≡ num m))
+      ⊎ ((t ≡ tree.Unary (unary.Layout layout.AsVector) u) × (num m ≡ 4))
   IsLayout t (Join m) u = IsJoin t u
   IsLayout t Transpose u = t ≡ tree.Unary (unary.Layout layout.Transpose) u
   IsLayout t (Reverse n) u = t ≡ tree.Unary (unary.Layout layout.Reverse) u
@@ -46,6 +48,15 @@ module _ {A : Type 0} (num : A → ℕ) (w : World) where
       (p : Operator) × (x y : Tree) × (t ≡ tree.Binary (binary.Operator p) x y) × (scalar_op p ≡ o)
       × Lowers n i x a × Lowers n i y b
   Lowers n i t (ApplyNumber o m a) =
+      (x : Tree)
+      ×
+      (((o ≡ Div) × (t ≡ tree.Unary (unary.Div m) x))
+      ⊎ ((o ≡ Rem) × (t ≡ tree.Unary (unary.Rem m) x)))
+      × Lowers n i x a
+  Lowers n i t (ApplyLanes o l r a b) =
+      (p : Operator) × (x y : Tree) × (t ≡ tree.Binary (binary.Operator p) x y) × (scalar_op p ≡ o)
+      × Lowers n i x a × Lowers n i y b
+  Lowers n i t (DivideLanes o m a) =
       (x : Tree)
       ×
       (((o ≡ Div) × (t ≡ tree.Unary (unary.Div m) x))

@@ -2,13 +2,14 @@
 -- their types at one launch.
 use Rattle.std.specs.Prelude.{◌≡◌, ℕ, zero, suc, ◌<◌, ◌^◌, Bool, true, false}
 use Rattle.scalar_ops.specs.declared.op.Op.{Op}
+use Rattle.scalar_ops.specs.declared.op.Op.TheVariants.{Lt, Eq}
 use Rattle.kernel_tree.specs.Formula.{divides}
-use Rattle.lift_ir.specs.Types.{Ty, Scalar, PairOf, ArrayOf, IsElement, IsFlat, IsShort}
+use Rattle.lift_ir.specs.Types.{Ty, Scalar, PairOf, ArrayOf, four, IsFour, IsElement, IsFlat, IsShort}
 use Rattle.lift_ir.specs.Layouts.{Layout, Reshapes, HasWordStep}
 
 -- which scalars of a bound element are loaded into private variables
 pub data LoadSet : Type 0 where
-  Skip Take : LoadSet
+  Skip Take TakeFour : LoadSet
   Each : (left right : LoadSet) → LoadSet
 
 -- how a map is run: over the launch, over its work-groups, over the work-items
@@ -30,6 +31,9 @@ pub data Term (A : Type 0) : Type 0 where
   Source : (input : ℕ) → Term A
   Apply : Op → (a b : Term A) → Term A  -- an operator of two operands
   ApplyNumber : Op → (n : ℕ) → (a : Term A) → Term A  -- quotient and remainder by a number
+  -- the same lane by lane; an operand that is no vector stands for equal lanes
+  ApplyLanes : Op → (left right : Bool) → (a b : Term A) → Term A
+  DivideLanes : Op → (n : ℕ) → (a : Term A) → Term A
   Select : (c a b : Term A) → Term A
   Both : (zips : Bool) → (a b : Term A) → Term A  -- zip and pair
   Project : (second : Bool) → (a : Term A) → Term A
@@ -41,12 +45,15 @@ pub data Term (A : Type 0) : Type 0 where
   Store : Ty → (a : Term A) → Term A  -- an element term of this type, in writing position
   Copy : Space → Ty → (a : Term A) → Term A  -- toLocal and toPrivate, of an array of this type
 
--- scalars alone are loaded
+-- scalars and vectors alone are loaded
 abbrev pub LoadsScalars : LoadSet → Ty → Type 0
 LoadsScalars Skip t = Unit {0}
 LoadsScalars Take Scalar = Unit {0}
 LoadsScalars Take (PairOf a b) = ⊥
 LoadsScalars Take (ArrayOf n t) = ⊥
+LoadsScalars TakeFour Scalar = ⊥
+LoadsScalars TakeFour (PairOf a b) = ⊥
+LoadsScalars TakeFour (ArrayOf n t) = IsFour n t
 LoadsScalars (Each x y) Scalar = ⊥
 LoadsScalars (Each x y) (PairOf a b) = LoadsScalars x a × LoadsScalars y b
 LoadsScalars (Each x y) (ArrayOf n t) = ⊥
@@ -56,6 +63,22 @@ abbrev pub push : {A : Type 0} → A → (ℕ → A) → ℕ → A
 push x env zero = x
 push x env (suc v) = env v
 
+-- an operator that acts lane by lane
+abbrev pub acts_on_lanes : Op → Bool
+acts_on_lanes Lt = false
+acts_on_lanes Eq = false
+acts_on_lanes _ = true
+
+-- a vector, or a number that stands for one
+abbrev pub lane_type : (vector : Bool) → Ty
+lane_type true = four
+lane_type false = Scalar
+
+-- one of two is a vector
+abbrev pub SomeVector : (left right : Bool) → Type 0
+SomeVector false false = ⊥
+SomeVector _ _ = Unit {0}
+
 -- the term has this type at a launch, where the inputs and the binders have these
 abbrev pub HasType : {A : Type 0} → (A → ℕ) → (ℕ → Ty) → (ℕ → Ty) → Term A → Ty → Type 0
 HasType num src g (Literal n) t = t ≡ Scalar
@@ -64,6 +87,11 @@ HasType num src g (Source a) t = t ≡ src a
 HasType num src g (Apply o a b) t =
     (t ≡ Scalar) × (divides o ≡ false) × HasType num src g a Scalar × HasType num src g b Scalar
 HasType num src g (ApplyNumber o n a) t = (t ≡ Scalar) × (0 < n) × HasType num src g a Scalar
+HasType num src g (ApplyLanes o l r a b) t =
+    (t ≡ four) × (divides o ≡ false) × (acts_on_lanes o ≡ true) × SomeVector l r
+    × HasType num src g a (lane_type l)
+    × HasType num src g b (lane_type r)
+HasType num src g (DivideLanes o n a) t = (t ≡ four) × (0 < n) × HasType num src g a four
 HasType num src g (Select c a b) t =
     (t ≡ Scalar) × HasType num src g c Scalar × HasType num src g a Scalar
     × HasType num src g b Scalar

@@ -1,6 +1,6 @@
 -- Types whose lengths are of any kind: polynomials, or numbers at one launch; and
 -- the positions of their scalars.
-use Rattle.std.specs.Prelude.{ℕ, ◌+◌, ◌*◌, ◌/◌, ◌%◌, ◌<◌, ◌^◌, Bool, true, false, List, [], ◌∷◌, ◌++◌, map}
+use Rattle.std.specs.Prelude.{◌≡◌, ℕ, ◌+◌, ◌*◌, ◌/◌, ◌%◌, ◌<◌, ◌^◌, Bool, true, false, List, [], ◌∷◌, ◌++◌, map}
 
 -- a type whose lengths are of A
 pub data Shape (A : Type 0) : Type 0 where
@@ -66,15 +66,38 @@ unflat (ArrayOf n t) x = x / size t ∷ unflat t (x % size t)
 unflat _ x = []
 
 -- numbers, and pairs of these
+abbrev pub IsWords : Ty → Type 0
+IsWords Scalar = Unit {0}
+IsWords (PairOf a b) = IsWords a × IsWords b
+IsWords (ArrayOf n t) = ⊥
+
+-- a vector: an array of four numbers
+abbrev pub four : Ty
+four = ArrayOf 4 Scalar
+
+abbrev pub IsFour : ℕ → Ty → Type 0
+IsFour n t = (n ≡ 4) × (t ≡ Scalar)
+
+-- numbers, vectors, and pairs of these
 abbrev pub IsElement : Ty → Type 0
 IsElement Scalar = Unit {0}
 IsElement (PairOf a b) = IsElement a × IsElement b
-IsElement (ArrayOf n t) = ⊥
+IsElement (ArrayOf n t) = IsFour n t
 
--- its pairs hold elements only
+-- the pair choices of an element's components
+abbrev pub IsPart : Ty → List Bool → Type 0
+IsPart Scalar [] = Unit {0}
+IsPart Scalar (c ∷ cs) = ⊥
+IsPart (PairOf a b) [] = ⊥
+IsPart (PairOf a b) (false ∷ cs) = IsPart a cs
+IsPart (PairOf a b) (true ∷ cs) = IsPart b cs
+IsPart (ArrayOf n t) [] = Unit {0}
+IsPart (ArrayOf n t) (c ∷ cs) = ⊥
+
+-- its pairs hold numbers only
 abbrev pub IsFlat : Ty → Type 0
 IsFlat Scalar = Unit {0}
-IsFlat (PairOf a b) = IsElement a × IsElement b
+IsFlat (PairOf a b) = IsWords a × IsWords b
 IsFlat (ArrayOf n t) = IsFlat t
 
 -- its lengths are below 2^31

@@ -1,5 +1,7 @@
 -- The terms that a program's text may have.
 use Rattle.std.specs.Prelude.{ℕ, suc, ◌+◌, ◌<◌, List, length}
+use Rattle.lift_tree.specs.declared.layout.Layout as layout
+use Rattle.lift_tree.specs.declared.layout.Layout.TheVariants.{Join, Transpose, Split, Reverse, Stride, AsVector, AsScalar}
 use Rattle.lift_tree.specs.declared.term.UnaryForm.{UnaryForm}
 use Rattle.lift_tree.specs.declared.term.UnaryForm.TheVariants.{Div, Rem, First, Second, Layout, Slide, Pad, ToLocal, ToPrivate, Then}
 use Rattle.lift_tree.specs.Belonging.{FormIsNamed}
@@ -7,25 +9,36 @@ use Rattle.lift_tree.specs.Programs.{PlainProgram}
 use Rattle.lift_tree.specs.Tree.{Tree, Variable, Number, Input, Unary, Binary, Select, Let, Map, Fold}
 use Rattle.lift_reader.specs.ProgramText.{IsProgramText}
 
--- a form that copies nothing
-abbrev pub IsNoCopy : UnaryForm → Type 0
-IsNoCopy (Div n) = Unit {0}
-IsNoCopy (Rem n) = Unit {0}
-IsNoCopy First = Unit {0}
-IsNoCopy Second = Unit {0}
-IsNoCopy (Layout l) = Unit {0}
-IsNoCopy (Slide s t) = Unit {0}
-IsNoCopy (Pad l r) = Unit {0}
-IsNoCopy ToLocal = ⊥
-IsNoCopy ToPrivate = ⊥
-IsNoCopy Then = ⊥
+-- a layout to or from vectors is none of a text's
+abbrev pub IsOfNumbers : layout.Layout → Type 0
+IsOfNumbers Join = Unit {0}
+IsOfNumbers Transpose = Unit {0}
+IsOfNumbers (Split fs) = Unit {0}
+IsOfNumbers Reverse = Unit {0}
+IsOfNumbers (Stride fs) = Unit {0}
+IsOfNumbers AsVector = ⊥
+IsOfNumbers AsScalar = ⊥
+
+-- a form that copies nothing, and has to do with no vectors
+abbrev pub IsPlain : UnaryForm → Type 0
+IsPlain (Div n) = Unit {0}
+IsPlain (Rem n) = Unit {0}
+IsPlain First = Unit {0}
+IsPlain Second = Unit {0}
+IsPlain (Layout l) = IsOfNumbers l
+IsPlain (Slide s t) = Unit {0}
+IsPlain (Pad l r) = Unit {0}
+IsPlain ToLocal = ⊥
+IsPlain ToPrivate = ⊥
+IsPlain Then = ⊥
 
 -- a form that a text may have, where so many sizes are declared
 abbrev pub IsTextForm : (sizes : ℕ) → UnaryForm → Type 0
-IsTextForm s f = FormIsNamed s f × IsNoCopy f
+IsTextForm s f = FormIsNamed s f × IsPlain f
 
 -- a term that a text may have, with so many terms open, itself one of them: it names its binders
--- and what is declared alone, copies nothing, and at most 256 terms stand in one another
+-- and what is declared alone, copies nothing, holds no vectors, and at most 256 terms stand in one
+-- another
 abbrev pub IsTextTerm : (sizes inputs binders depth : ℕ) → Tree → Type 0
 IsTextTerm s i b d (Variable n) = n < b
 IsTextTerm s i b d (Number n) = Unit {0}

@@ -1,14 +1,16 @@
--- Types with a demand on each form of one child: nothing, or that what it copies is an array. What
+-- Types with a demand on each form: nothing, or that what it copies is an array, and that no vector
+-- is in its pairs. What
 -- makes a term that is typed under either demand, where another is, keeps types and copies at once.
 use Rattle.std.proofs.Common.{◌≡◌, ◌<◌, ◌^◌, List, ◌∷◌, Some, refl, sym, ap, ◌∙◌, subst}
 use Rattle.std.specs.Prelude.{slice_get}
 use Rattle.size_arith.specs.declared.poly.Monomial.{Monomial}
 use Rattle.lift_tree.specs.declared.term.UnaryForm.{UnaryForm}
+use Rattle.lift_tree.specs.declared.term.BinaryForm.{BinaryForm}
 use Rattle.lift_tree.specs.Tree.{Tree, Variable, Number, Input, Unary, Binary, Select, Let, Map, Fold}
 use Rattle.lift_tree.specs.Types.{PlainTy, U32, ArrayOf, IsElement}
 use Rattle.lift_tree.specs.Typing.{Declared, UnaryRow, BinaryRow, Types, constant}
 use Rattle.lift_tree.specs.Annotations.{Annotation, Leaf, One, Two, Three, Annotates, type_in}
-use Rattle.lift_tree.specs.Copies.{FormCopiesArrays, CopiesArrays, IsCopyingArrays}
+use Rattle.lift_tree.specs.Copies.{FormCopiesArrays, FormPairsNumbers, CopiesArrays, IsCopyingArrays}
 use Rattle.lift_tree.proofs.Annotated.{annotated_is_typed}
 use Rattle.lift_tree.proofs.Unique.{one_type}
 
@@ -22,6 +24,15 @@ abbrev pub Meets : Demand → UnaryForm → PlainTy → Type 0
 Meets Nothing f a = Unit {0}
 Meets ArrayCopies f a = FormCopiesArrays f a
 
+-- so does one of two children
+abbrev pub MeetsPairs : Demand → BinaryForm → PlainTy → Type 0
+MeetsPairs Nothing f a = Unit {0}
+MeetsPairs ArrayCopies f a = FormPairsNumbers f a
+
+pub met_pairs : (m : Demand) (f : BinaryForm) (a : PlainTy) → FormPairsNumbers f a → MeetsPairs m f a
+met_pairs Nothing f a h = tt
+met_pairs ArrayCopies f a h = h
+
 pub met : (m : Demand) (f : UnaryForm) (a : PlainTy) → FormCopiesArrays f a → Meets m f a
 met Nothing f a h = tt
 met ArrayCopies f a h = h
@@ -32,7 +43,7 @@ TypesUnder m d g (Variable n) a = slice_get g n ≡ Some a
 TypesUnder m d g (Number n) a = (n < 2 ^ 32) × (a ≡ U32)
 TypesUnder m d g (Input n) a = slice_get d.inputs n ≡ Some a
 TypesUnder m d g (Unary f t) a = (b : PlainTy) × TypesUnder m d g t b × UnaryRow d.names f b a × Meets m f a
-TypesUnder m d g (Binary f t u) a = (b c : PlainTy) × TypesUnder m d g t b × TypesUnder m d g u c × BinaryRow f b c a
+TypesUnder m d g (Binary f t u) a = (b c : PlainTy) × TypesUnder m d g t b × TypesUnder m d g u c × BinaryRow f b c a × MeetsPairs m f a
 TypesUnder m d g (Select t u v) a = TypesUnder m d g t U32 × TypesUnder m d g u U32 × TypesUnder m d g v U32 × (a ≡ U32)
 TypesUnder m d g (Let v b) a = (c : PlainTy) × TypesUnder m d g v c × TypesUnder m d (c ∷ g) b a
 TypesUnder m d g (Map k xs b) a =
@@ -62,7 +73,7 @@ module _ (d : Declared) where
   types_freely g (Number n) a h = h
   types_freely g (Input n) a h = h
   types_freely g (Unary f t) a h = (h.0, types_freely g t h.0 h.1, h.2, tt)
-  types_freely g (Binary f t u) a h = (h.0, h.1, types_freely g t h.0 h.2, types_freely g u h.1 h.3, h.4)
+  types_freely g (Binary f t u) a h = (h.0, h.1, types_freely g t h.0 h.2, types_freely g u h.1 h.3, h.4, tt)
   types_freely g (Select t u v) a h = (types_freely g t U32 h.0, types_freely g u U32 h.1, types_freely g v U32 h.2, h.3)
   types_freely g (Let v b) a h = (h.0, types_freely g v h.0 h.1, types_freely (h.0 ∷ g) b a h.2)
   types_freely g (Map k xs b) a h = (h.0, h.1, h.2, types_freely g xs (ArrayOf h.0 h.2) h.3, types_freely (h.0 ∷ g) b h.1 h.4, h.5)
@@ -84,7 +95,7 @@ module _ (d : Declared) where
   types_copying g (Number i) (Leaf a) h c = h
   types_copying g (Input i) (Leaf a) h c = h
   types_copying g (Unary f t) (One a n) h c = (type_in n, types_copying g t n h.0 c.1, h.1, c.0)
-  types_copying g (Binary f t u) (Two a n k) h c = (type_in n, type_in k, types_copying g t n h.0 c.0, types_copying g u k h.1 c.1, h.2)
+  types_copying g (Binary f t u) (Two a n k) h c = (type_in n, type_in k, types_copying g t n h.0 c.0, types_copying g u k h.1 c.1, h.2, c.2)
   types_copying g (Select t u v) (Three a n k l) h c = (
     subst (TypesUnder ArrayCopies d g t) h.3 (types_copying g t n h.0 c.0),
     subst (TypesUnder ArrayCopies d g u) h.4 (types_copying g u k h.1 c.1),
@@ -121,7 +132,7 @@ module _ (d : Declared) where
       record {
         types = Two a n.types k.types;
         nodes = (n.nodes, k.nodes, subst (λ z. BinaryRow f (type_in n.types) z a) (sym k.is) (subst (λ z. BinaryRow f z h.1 a) (sym n.is) h.4));
-        arrays = (n.arrays, k.arrays);
+        arrays = (n.arrays, k.arrays, h.5);
         is = refl;
       }
   nodes_of g (Select t u v) a h =
@@ -191,7 +202,7 @@ module _ (d : Declared) where
   arrays_by g (Number i) a (Leaf b) h k = tt
   arrays_by g (Input i) a (Leaf b) h k = tt
   arrays_by g (Unary f t) a (One b n) h k = (subst (FormCopiesArrays f) (same_type g (Unary f t) a (One b n) h k) h.3, arrays_by g t h.0 n h.1 k.0)
-  arrays_by g (Binary f t u) a (Two b n m) h k = (arrays_by g t h.0 n h.2 k.0, arrays_by g u h.1 m h.3 k.1)
+  arrays_by g (Binary f t u) a (Two b n m) h k = (arrays_by g t h.0 n h.2 k.0, arrays_by g u h.1 m h.3 k.1, subst (FormPairsNumbers f) (same_type g (Binary f t u) a (Two b n m) h k) h.5)
   arrays_by g (Select t u v) a (Three b n m l) h k = (arrays_by g t U32 n h.0 k.0, arrays_by g u U32 m h.1 k.1, arrays_by g v U32 l h.2 k.2)
   arrays_by g (Let v t) a (Two b n m) h k =
       let e = same_type g v h.0 n h.1 k.0 in

@@ -13,8 +13,9 @@ use Rattle.lift_tree.specs.declared.term.BinaryForm.{BinaryForm}
 use Rattle.lift_tree.specs.declared.term.BinaryForm.TheVariants as binary
 use Rattle.lift_tree.specs.Tree.{Tree, Variable, Number, Input, Unary, Binary, Select, Let, Map, Fold}
 use Rattle.lift_tree.specs.Lists.{Every}
-use Rattle.lift_tree.specs.Types.{PlainTy, ArrayOf, IsFormed}
-use Rattle.lift_tree.specs.Typing.{Declared, UnaryRow, BinaryRow, Types, constant}
+use Rattle.lift_tree.specs.declared.term.Operator.{Operator}
+use Rattle.lift_tree.specs.Types.{PlainTy, U32, U32x4, ArrayOf, IsFormed}
+use Rattle.lift_tree.specs.Typing.{Declared, UnaryRow, BinaryRow, OperatorRow, Types, constant}
 use Rattle.lift_tree.specs.Annotations.{Annotates, Annotation, type_in}
 use Rattle.lift_tree.proofs.Annotated.{annotated_is_typed}
 use Rattle.lift_tree.proofs.EveryAt.{every_at}
@@ -29,8 +30,8 @@ module _ (d : Declared) (inputs : Every (IsFormed d.names) d.inputs) where
   layout_formed l b a (inr r) h = r.formed
 
   unary_formed : (f : UnaryForm) (b a : PlainTy) → UnaryRow d.names f b a → IsFormed d.names b → IsFormed d.names a
-  unary_formed (Div n) b a r h = subst (IsFormed d.names) (sym r.2) tt
-  unary_formed (Rem n) b a r h = subst (IsFormed d.names) (sym r.2) tt
+  unary_formed (Div n) b a r h = subst (IsFormed d.names) (sym r.2) h
+  unary_formed (Rem n) b a r h = subst (IsFormed d.names) (sym r.2) h
   unary_formed First b a r h = (subst (IsFormed d.names) r.1 h).0
   unary_formed Second b a r h = (subst (IsFormed d.names) r.1 h).1
   unary_formed (Layout l) b a r h = layout_formed l b a (layout_cases d.names l b a r) h
@@ -40,8 +41,15 @@ module _ (d : Declared) (inputs : Every (IsFormed d.names) d.inputs) where
   unary_formed ToPrivate b a r h = subst (IsFormed d.names) r h
   unary_formed Then b a r h = subst (IsFormed d.names) r h
 
+  operator_formed : (o : Operator) (b c a : PlainTy) → OperatorRow o b c a → IsFormed d.names a
+  operator_formed o U32 U32 a r = subst (IsFormed d.names) (sym r) tt
+  operator_formed o U32 U32x4 a r = subst (IsFormed d.names) (sym r.1) tt
+  operator_formed o U32x4 U32 a r = subst (IsFormed d.names) (sym r.1) tt
+  operator_formed o U32x4 U32x4 a r = subst (IsFormed d.names) (sym r.1) tt
+  operator_formed o _ _ a r = absurd (assumption)
+
   binary_formed : (f : BinaryForm) (b c a : PlainTy) → BinaryRow f b c a → IsFormed d.names b → IsFormed d.names c → IsFormed d.names a
-  binary_formed (binary.Operator o) b c a r h k = subst (IsFormed d.names) (sym r.2) tt
+  binary_formed (binary.Operator o) b c a r h k = operator_formed o b c a r
   binary_formed binary.Pair b c a r h k = subst (IsFormed d.names) (sym r.2) (h, k)
   binary_formed binary.Zip b c a r h k =
       let x = subst (IsFormed d.names) r.3 h in

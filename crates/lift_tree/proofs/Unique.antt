@@ -6,8 +6,9 @@ use Rattle.lift_tree.specs.declared.term.UnaryForm.TheVariants.{Div, Rem, First,
 use Rattle.lift_tree.specs.declared.term.BinaryForm.{BinaryForm}
 use Rattle.lift_tree.specs.declared.term.BinaryForm.TheVariants as binary
 use Rattle.lift_tree.specs.Tree.{Tree, Variable, Number, Input, Unary, Binary, Select, Let, Map, Fold}
-use Rattle.lift_tree.specs.Types.{PlainTy, ArrayOf}
-use Rattle.lift_tree.specs.Typing.{Declared, UnaryRow, BinaryRow, Types, OneType}
+use Rattle.lift_tree.specs.declared.term.Operator.{Operator}
+use Rattle.lift_tree.specs.Types.{PlainTy, U32, U32x4, ArrayOf}
+use Rattle.lift_tree.specs.Typing.{Declared, UnaryRow, BinaryRow, OperatorRow, Types, OneType}
 use Rattle.lift_tree.proofs.Layouts.{layout_unique, same_array}
 
 unary_unique : (names : List Name) (f : UnaryForm) (b a c : PlainTy) → UnaryRow names f b a → UnaryRow names f b c → a ≡ c
@@ -26,8 +27,15 @@ unary_unique names ToLocal b a c h k = sym h ∙ k
 unary_unique names ToPrivate b a c h k = sym h ∙ k
 unary_unique names Then b a c h k = sym h ∙ k
 
+operator_unique : (o : Operator) (b d a c : PlainTy) → OperatorRow o b d a → OperatorRow o b d c → a ≡ c
+operator_unique o U32 U32 a c h k = h ∙ sym k
+operator_unique o U32 U32x4 a c h k = h.1 ∙ sym k.1
+operator_unique o U32x4 U32 a c h k = h.1 ∙ sym k.1
+operator_unique o U32x4 U32x4 a c h k = h.1 ∙ sym k.1
+operator_unique o _ _ a c h k = absurd (assumption)
+
 binary_unique : (f : BinaryForm) (b d a c : PlainTy) → BinaryRow f b d a → BinaryRow f b d c → a ≡ c
-binary_unique (binary.Operator o) b d a c h k = h.2 ∙ sym k.2
+binary_unique (binary.Operator o) b d a c h k = operator_unique o b d a c h k
 binary_unique binary.Pair b d a c h k = h.2 ∙ sym k.2
 binary_unique binary.Zip b d a c h k = let p = h.3 in let q = h.4 in let r = h.5 in let s = k.3 in let t = k.4 in let u = k.5 in cc
 binary_unique (binary.Reduce o) b d a c h k = h.3 ∙ sym k.3

@@ -12,9 +12,10 @@ use Rattle.lift_tree.specs.declared.term.BinaryForm.TheVariants as binary
 use Rattle.lift_tree.specs.Lists.{Every}
 use Rattle.lift_tree.specs.Tree as tree
 use Rattle.lift_tree.specs.Tree.{Tree}
-use Rattle.lift_tree.specs.Types.{PlainTy, U32, PairOf, ArrayOf, IsFormed}
+use Rattle.lift_tree.specs.declared.term.Operator.{Operator}
+use Rattle.lift_tree.specs.Types.{PlainTy, U32, U32x4, PairOf, ArrayOf, IsFormed}
 use Rattle.lift_tree.specs.Limits.{arrays, HasFewScalars, LayoutFits, LengthsFit, NodesFit, OuterFits, TypeFits, UnaryFits}
-use Rattle.lift_tree.specs.Typing.{BinaryRow, constant, Declared, UnaryRow}
+use Rattle.lift_tree.specs.Typing.{BinaryRow, OperatorRow, constant, Declared, UnaryRow}
 use Rattle.lift_tree.specs.Annotations.{Annotates, Annotation, Leaf, One, Three, Two, type_in}
 use Rattle.lift_tree.proofs.EveryAt.{every_at}
 use Rattle.lift_tree.proofs.Formed.{one_shown}
@@ -51,6 +52,9 @@ module _ (d : Declared) (inputs : Every (IsWithin d.names) d.inputs) where
   of_number : (a : PlainTy) → a ≡ U32 → Within a
   of_number a e = subst Within (sym e) (record { formed = tt; lengths = tt; few = omega arith })
 
+  of_vector : (a : PlainTy) → a ≡ U32x4 → Within a
+  of_vector a e = subst Within (sym e) (record { formed = tt; lengths = tt; few = omega arith })
+
   -- an array that is formed
   array : (a x : PlainTy) (n : List Monomial) → a ≡ ArrayOf x n → IsFormed d.names (ArrayOf x n) → LengthFits n → LengthsFit x → arrays (ArrayOf x n) ≤ 4 → Within a
   array a x n e formed fits inner few = subst Within (sym e) (record { formed = formed; lengths = (fits.terms, fits.degree, inner); few = few })
@@ -67,8 +71,8 @@ module _ (d : Declared) (inputs : Every (IsWithin d.names) d.inputs) where
   }
 
   of_unary : (f : UnaryForm) (b a : PlainTy) → UnaryRow d.names f b a → UnaryFits d.names f b → Within b → Within a
-  of_unary (unary.Div k) b a r u h = of_number a r.2
-  of_unary (unary.Rem k) b a r u h = of_number a r.2
+  of_unary (unary.Div k) b a r u h = subst Within (sym r.2) h
+  of_unary (unary.Rem k) b a r u h = subst Within (sym r.2) h
   of_unary unary.First b a r u h = let g = subst Within r.1 h in let f = g.few in record { formed = g.formed.0; lengths = g.lengths.0; few = omega (arith, f) }
   of_unary unary.Second b a r u h = let g = subst Within r.1 h in let f = g.few in record { formed = g.formed.1; lengths = g.lengths.1; few = omega (arith, f) }
   of_unary (unary.Layout l) b a r u h = of_layout l b a (layout_cases d.names l b a r) u h
@@ -87,8 +91,15 @@ module _ (d : Declared) (inputs : Every (IsWithin d.names) d.inputs) where
   of_unary unary.ToPrivate b a r u h = subst Within r h
   of_unary unary.Then b a r u h = subst Within r h
 
+  of_operator : (o : Operator) (b c a : PlainTy) → OperatorRow o b c a → Within a
+  of_operator o U32 U32 a r = of_number a r
+  of_operator o U32 U32x4 a r = of_vector a r.1
+  of_operator o U32x4 U32 a r = of_vector a r.1
+  of_operator o U32x4 U32x4 a r = of_vector a r.1
+  of_operator o _ _ a r = absurd (assumption)
+
   of_binary : (f : BinaryForm) (b c a : PlainTy) → BinaryRow f b c a → OuterFits d.names a → Within b → Within c → Within a
-  of_binary (binary.Operator o) b c a r u h k = of_number a r.2
+  of_binary (binary.Operator o) b c a r u h k = of_operator o b c a r
   of_binary binary.Pair b c a r u h k = subst Within (sym r.2) (pair b c h k)
   of_binary binary.Zip b c a r u h k =
       let g = subst Within r.3 h in

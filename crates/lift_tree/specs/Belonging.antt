@@ -5,7 +5,7 @@ use Rattle.lift_tree.specs.declared.length.Factor.{Factor}
 use Rattle.lift_tree.specs.declared.length.Factor.TheVariants as factor
 use Rattle.lift_tree.specs.declared.length.Part.{Part}
 use Rattle.lift_tree.specs.declared.layout.Layout as layout
-use Rattle.lift_tree.specs.declared.layout.Layout.TheVariants.{Join, Transpose, Split, Reverse, Stride}
+use Rattle.lift_tree.specs.declared.layout.Layout.TheVariants.{Join, Transpose, Split, Reverse, Stride, AsVector, AsScalar}
 use Rattle.lift_tree.specs.declared.term.UnaryForm.{UnaryForm}
 use Rattle.lift_tree.specs.declared.term.UnaryForm.TheVariants.{Div, Rem, First, Second, Layout, Slide, Pad, ToLocal, ToPrivate, Then}
 use Rattle.lift_tree.specs.Tree.{Tree, Variable, Number, Input, Unary, Binary, Select, Let, Map, Fold}
@@ -47,13 +47,13 @@ IsElementType written.Number = Unit {0}
 IsElementType (written.Pair a b) = IsElementType a × IsElementType b
 IsElementType (written.Array a n) = ⊥
 
--- its pairs hold elements only
+-- its pairs hold numbers only
 abbrev pub HoldsElementTypes : Written → Type 0
 HoldsElementTypes written.Number = Unit {0}
 HoldsElementTypes (written.Pair a b) = IsElementType a × IsElementType b
 HoldsElementTypes (written.Array a n) = HoldsElementTypes a
 
--- the type of an input: an array, its pairs hold elements only
+-- the type of an input: an array, its pairs hold numbers only
 abbrev pub IsInputType : Written → Type 0
 IsInputType written.Number = ⊥
 IsInputType (written.Pair a b) = ⊥
@@ -66,6 +66,8 @@ LayoutIsNamed s Transpose = Unit {0}
 LayoutIsNamed s (Split fs) = AreNamed s 1 fs
 LayoutIsNamed s Reverse = Unit {0}
 LayoutIsNamed s (Stride fs) = AreNamed s 1 fs
+LayoutIsNamed s AsVector = Unit {0}
+LayoutIsNamed s AsScalar = Unit {0}
 
 -- the numbers of div, rem, split, stride and slide are at least 1
 abbrev pub FormIsNamed : (sizes : ℕ) → UnaryForm → Type 0

@@ -1,5 +1,5 @@
 -- The limits on types: what they count, and which programs lie within them.
-use Rattle.std.specs.Prelude.{ℕ, suc, ◌≤◌, max, List, [], ◌∷◌, ◌++◌, length, map, pos}
+use Rattle.std.specs.Prelude.{ℕ, suc, ◌*◌, ◌≤◌, max, List, [], ◌∷◌, ◌++◌, length, map, pos}
 use Rattle.size_arith.specs.declared.names.Name.{Name}
 use Rattle.size_arith.specs.declared.poly.Monomial.{Monomial}
 use Rattle.size_arith.specs.Polynomial.{number, of_monomial, plus, minus, times, quotient, degree, greatest}
@@ -7,13 +7,13 @@ use Rattle.size_arith.specs.Shown.{largest}
 use Rattle.lift_tree.specs.declared.length.Factor.{Factor}
 use Rattle.lift_tree.specs.declared.length.Part.{Part}
 use Rattle.lift_tree.specs.declared.layout.Layout as layout
-use Rattle.lift_tree.specs.declared.layout.Layout.TheVariants.{Join, Transpose, Split, Reverse, Stride}
+use Rattle.lift_tree.specs.declared.layout.Layout.TheVariants.{Join, Transpose, Split, Reverse, Stride, AsVector, AsScalar}
 use Rattle.lift_tree.specs.declared.term.UnaryForm.{UnaryForm}
 use Rattle.lift_tree.specs.declared.term.UnaryForm.TheVariants.{Div, Rem, First, Second, Layout, Slide, Pad, ToLocal, ToPrivate, Then}
 use Rattle.lift_tree.specs.Tree.{Tree, Variable, Number, Input, Unary, Binary, Select, Let, Map, Fold}
 use Rattle.lift_tree.specs.InputTypes as written
 use Rattle.lift_tree.specs.InputTypes.{Written}
-use Rattle.lift_tree.specs.Types.{PlainTy, U32, PairOf, ArrayOf}
+use Rattle.lift_tree.specs.Types.{PlainTy, U32, U32x4, PairOf, ArrayOf}
 use Rattle.lift_tree.specs.Typing.{constant, Declared, declared_by, IsDeclared}
 use Rattle.lift_tree.specs.WorkedOut.{factor_monomial, product_of, with_part, length_of, worked_out, range_of}
 use Rattle.lift_tree.specs.Lists.{Every}
@@ -24,12 +24,14 @@ use Rattle.lift_tree.specs.Annotations.{Annotation, Leaf, One, Two, Three, type_
 -- the most arrays around a scalar
 abbrev pub arrays : PlainTy → ℕ
 arrays U32 = 0
+arrays U32x4 = 0
 arrays (PairOf a b) = max (arrays a) (arrays b)
 arrays (ArrayOf a n) = suc (arrays a)
 
 -- the ways to the components, from left to right
 abbrev pub components : PlainTy → List (List Side)
 components U32 = [] ∷ []
+components U32x4 = [] ∷ []
 components (PairOf a b) = map (λ c. Left ∷ c) (components a) ++ map (λ c. Right ∷ c) (components b)
 components (ArrayOf a n) = components a
 
@@ -58,12 +60,14 @@ SumFits names s (p ∷ ps) =
 -- for each component, the products of the lengths inwards, where those outside have this product
 abbrev pub ProductsAreSmall : (outside : List Monomial) → PlainTy → Type 0
 ProductsAreSmall p U32 = Unit {0}
+ProductsAreSmall p U32x4 = Unit {0}
 ProductsAreSmall p (PairOf a b) = ProductsAreSmall p a × ProductsAreSmall p b
 ProductsAreSmall p (ArrayOf a n) = IsSmall (times p n) × ProductsAreSmall (times p n) a
 
--- each component has at most 2147483647 scalars at the largest sizes
+-- each component has at most 2147483647 scalars at the largest sizes, four a vector
 abbrev pub ScalarsAreFew : List Name → (outside : List Monomial) → PlainTy → Type 0
 ScalarsAreFew names p U32 = largest names p ≤ 2147483647
+ScalarsAreFew names p U32x4 = 4 * largest names p ≤ 2147483647
 ScalarsAreFew names p (PairOf a b) = ScalarsAreFew names p a × ScalarsAreFew names p b
 ScalarsAreFew names p (ArrayOf a n) = ScalarsAreFew names (times p n) a
 
@@ -77,12 +81,14 @@ pub record ArrayFits (names : List Name) (a : PlainTy) (n : List Monomial) : Typ
 -- the type's outer array, if it is one
 abbrev pub OuterFits : List Name → PlainTy → Type 0
 OuterFits names U32 = Unit {0}
+OuterFits names U32x4 = Unit {0}
 OuterFits names (PairOf a b) = Unit {0}
 OuterFits names (ArrayOf a n) = ArrayFits names a n
 
 -- the scalars of the type's outer arrays
 abbrev pub HasFewScalars : List Name → PlainTy → Type 0
 HasFewScalars names U32 = Unit {0}
+HasFewScalars names U32x4 = Unit {0}
 HasFewScalars names (PairOf a b) = HasFewScalars names a × HasFewScalars names b
 HasFewScalars names (ArrayOf a n) = ScalarsAreFew names n a
 
@@ -124,6 +130,17 @@ TransposeFits names (ArrayOf (ArrayOf a m) n) =
     ArrayFits names a n × ArrayFits names (ArrayOf a n) m
 TransposeFits names _ = ⊥
 
+-- what vectors of an array's elements form
+abbrev pub VectorsFit : List Name → PlainTy → Type 0
+VectorsFit names (ArrayOf a n) = ArrayFits names U32x4 (quotient (number (pos 4)) n)
+VectorsFit names _ = ⊥
+
+-- what the scalars of an array of vectors work out and form
+abbrev pub ScalarsFit : List Name → PlainTy → Type 0
+ScalarsFit names (ArrayOf a n) =
+    IsSmall (times n (constant 4)) × ArrayFits names U32 (times n (constant 4))
+ScalarsFit names _ = ⊥
+
 -- what a layout of a child of this type works out and forms: reverse and stride form no array anew
 abbrev pub LayoutFits : List Name → layout.Layout → PlainTy → Type 0
 LayoutFits names Join a = JoinFits names a
@@ -131,6 +148,8 @@ LayoutFits names Transpose a = TransposeFits names a
 LayoutFits names (Split fs) a = SplitFits names fs a
 LayoutFits names Reverse a = Unit {0}
 LayoutFits names (Stride fs) a = ProductFits names (constant 1) fs
+LayoutFits names AsVector a = VectorsFit names a
+LayoutFits names AsScalar a = ScalarsFit names a
 
 -- what a form with one child of this type works out and forms
 abbrev pub UnaryFits : List Name → UnaryForm → PlainTy → Type 0
@@ -179,6 +198,7 @@ pub record IsWithinLimits (p : PlainProgram) (t : Tree) (n : Annotation) : Type 
 -- each length has few enough terms, of a low enough degree
 abbrev pub LengthsFit : PlainTy → Type 0
 LengthsFit U32 = Unit {0}
+LengthsFit U32x4 = Unit {0}
 LengthsFit (PairOf a b) = LengthsFit a × LengthsFit b
 LengthsFit (ArrayOf a n) = (length n ≤ 32) × (degree n ≤ 4) × LengthsFit a
 

@@ -7,7 +7,7 @@ use Rattle.scalar_ops.specs.Operators.{apply_op, op_of, combine, choose}
 use Rattle.lift_tree.specs.declared.length.Factor.{Factor}
 use Rattle.lift_tree.specs.declared.length.Factor.TheVariants as factor
 use Rattle.lift_tree.specs.declared.layout.Layout as layout
-use Rattle.lift_tree.specs.declared.layout.Layout.TheVariants.{Join, Transpose, Split, Reverse, Stride}
+use Rattle.lift_tree.specs.declared.layout.Layout.TheVariants.{Join, Transpose, Split, Reverse, Stride, AsVector, AsScalar}
 use Rattle.lift_tree.specs.declared.term.Operator.{Operator}
 use Rattle.lift_tree.specs.declared.term.Operator.TheVariants as operator
 use Rattle.lift_tree.specs.declared.term.UnaryForm.{UnaryForm}
@@ -15,7 +15,7 @@ use Rattle.lift_tree.specs.declared.term.UnaryForm.TheVariants as unary
 use Rattle.lift_tree.specs.declared.term.BinaryForm.{BinaryForm}
 use Rattle.lift_tree.specs.declared.term.BinaryForm.TheVariants as binary
 use Rattle.lift_tree.specs.Tree.{Tree, Variable, Number, Input, Unary, Binary, Select, Let, Map, Fold}
-use Rattle.lift_tree.specs.Values.{Value, Word, Both, array, members, word, first, second, nth}
+use Rattle.lift_tree.specs.Values.{Value, Word, Both, More, array, members, word, first, second, nth}
 use Rattle.lift_tree.specs.Lists.{fold_left, concat, zip_with, pieces, pieces_that_fit, padded, width, columns, strided}
 
 -- the values of the base names, of the declared sizes, and of the inputs
@@ -66,11 +66,22 @@ layout_value sizes (Split m) v =
     (pieces (length (members v) / size) size size (members v))
 layout_value sizes Reverse v = array (reverse (members v))
 layout_value sizes (Stride m) v = array (strided (product_at sizes m) (members v))
+layout_value sizes AsVector v = array_of_rows (pieces (length (members v) / 4) 4 4 (members v))
+layout_value sizes AsScalar v = array (concat (rows v))
+
+-- a function of two numbers on two values: lane by lane where one is a list, and
+-- a number stands for equal lanes
+abbrev pub on_lanes : (ℕ → ℕ → ℕ) → Value → Value → Value
+on_lanes f (More x xs) (More y ys) =
+    array (zip_with (λ a b. Word (f (word a) (word b))) (members (More x xs)) (members (More y ys)))
+on_lanes f (More x xs) u = array (map (λ a. Word (f (word a) (word u))) (members (More x xs)))
+on_lanes f v (More y ys) = array (map (λ b. Word (f (word v) (word b))) (members (More y ys)))
+on_lanes f v u = Word (f (word v) (word u))
 
 -- the value of a form whose one child has this value
 abbrev pub unary_value : World → UnaryForm → Value → Value
-unary_value w (unary.Div n) v = Word (apply_op Div (word v) n)
-unary_value w (unary.Rem n) v = Word (apply_op Rem (word v) n)
+unary_value w (unary.Div n) v = on_lanes (apply_op Div) v (Word n)
+unary_value w (unary.Rem n) v = on_lanes (apply_op Rem) v (Word n)
 unary_value w unary.First v = first v
 unary_value w unary.Second v = second v
 unary_value w (unary.Layout l) v = layout_value w.sizes l v
@@ -83,7 +94,7 @@ unary_value w unary.Then v = v
 
 -- the value of a form whose two children have these values
 abbrev pub binary_value : BinaryForm → Value → Value → Value
-binary_value (binary.Operator o) v u = Word (apply_op (scalar_op o) (word v) (word u))
+binary_value (binary.Operator o) v u = on_lanes (apply_op (scalar_op o)) v u
 binary_value binary.Pair v u = Both v u
 binary_value binary.Zip v u = array (zip_with Both (members v) (members u))
 binary_value (binary.Reduce r) v u =

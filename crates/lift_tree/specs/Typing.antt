@@ -1,18 +1,20 @@
 -- Which types terms have, one row a form.
-use Rattle.std.specs.Prelude.{ℕ, ◌^◌, ◌<◌, ◌≡◌, List, [], ◌∷◌, Some, slice_get, pos, map, length, ◌≤◌}
+use Rattle.std.specs.Prelude.{ℕ, Bool, true, false, ◌^◌, ◌<◌, ◌≡◌, List, [], ◌∷◌, Some, slice_get, pos, map, length, ◌≤◌}
 use Rattle.size_arith.specs.declared.names.Name.{Name}
 use Rattle.size_arith.specs.declared.poly.Monomial.{Monomial}
 use Rattle.size_arith.specs.Ranges.{AreNames, Admissible, sizes_at}
 use Rattle.size_arith.specs.Polynomial.{number, of_monomial, plus, minus, times, AllDivide, quotient}
 use Rattle.size_arith.specs.Shown.{ShownAtLeast}
 use Rattle.lift_tree.specs.declared.layout.Layout as layout
-use Rattle.lift_tree.specs.declared.layout.Layout.TheVariants.{Join, Transpose, Split, Reverse, Stride}
+use Rattle.lift_tree.specs.declared.layout.Layout.TheVariants.{Join, Transpose, Split, Reverse, Stride, AsVector, AsScalar}
+use Rattle.lift_tree.specs.declared.term.Operator.{Operator}
+use Rattle.lift_tree.specs.declared.term.Operator.TheVariants as operator
 use Rattle.lift_tree.specs.declared.term.UnaryForm.{UnaryForm}
 use Rattle.lift_tree.specs.declared.term.UnaryForm.TheVariants.{Div, Rem, First, Second, Layout, Slide, Pad, ToLocal, ToPrivate, Then}
 use Rattle.lift_tree.specs.declared.term.BinaryForm.{BinaryForm}
 use Rattle.lift_tree.specs.declared.term.BinaryForm.TheVariants as binary
 use Rattle.lift_tree.specs.Tree.{Tree, Variable, Number, Input, Unary, Binary, Select, Let, Map, Fold}
-use Rattle.lift_tree.specs.Types.{PlainTy, U32, PairOf, ArrayOf, IsElement, IsFormed, IsInput, IsOutput, HasType, HaveTypes}
+use Rattle.lift_tree.specs.Types.{PlainTy, U32, U32x4, PairOf, ArrayOf, IsElement, IsFormed, IsInput, IsOutput, HasType, HaveTypes}
 use Rattle.lift_tree.specs.WorkedOut.{product_of, worked_out, range_of}
 use Rattle.lift_tree.specs.Programs.{PlainProgram}
 use Rattle.lift_tree.specs.Meaning.{World, meaning}
@@ -45,11 +47,40 @@ LayoutRow names Reverse b a =
 LayoutRow names (Stride fs) b a =
     (x : PlainTy) × (n : List Monomial) × (b ≡ ArrayOf x n) × AllDivide (product_of names fs) n
     × (a ≡ ArrayOf x n)
+LayoutRow names AsVector b a =
+    (n : List Monomial) × (b ≡ ArrayOf U32 n) × AllDivide (number (pos 4)) n
+    × (a ≡ ArrayOf U32x4 (quotient (number (pos 4)) n)) × IsFormed names a
+LayoutRow names AsScalar b a =
+    (n : List Monomial) × (b ≡ ArrayOf U32x4 n) × (a ≡ ArrayOf U32 (times n (constant 4)))
+    × IsFormed names a
+
+-- numbers, and vectors of them
+abbrev pub IsNumeric : PlainTy → Type 0
+IsNumeric U32 = Unit {0}
+IsNumeric U32x4 = Unit {0}
+IsNumeric _ = ⊥
+
+-- an operator that acts lane by lane
+abbrev pub is_lane_operator : Operator → Bool
+is_lane_operator (operator.Regrouping r) = true
+is_lane_operator operator.Sub = true
+is_lane_operator operator.Shl = true
+is_lane_operator operator.Shr = true
+is_lane_operator operator.Lt = false
+is_lane_operator operator.Eq = false
+
+-- an operator on operands of types b and c has type a: a vector where one of them is
+abbrev pub OperatorRow : Operator → (b c a : PlainTy) → Type 0
+OperatorRow o U32 U32 a = a ≡ U32
+OperatorRow o U32 U32x4 a = (is_lane_operator o ≡ true) × (a ≡ U32x4)
+OperatorRow o U32x4 U32 a = (is_lane_operator o ≡ true) × (a ≡ U32x4)
+OperatorRow o U32x4 U32x4 a = (is_lane_operator o ≡ true) × (a ≡ U32x4)
+OperatorRow o _ _ a = ⊥
 
 -- a form with one child of type b has type a; its arrays have lengths shown at least 1
 abbrev pub UnaryRow : List Name → UnaryForm → (b a : PlainTy) → Type 0
-UnaryRow names (Div n) b a = (0 < n) × (b ≡ U32) × (a ≡ U32)
-UnaryRow names (Rem n) b a = (0 < n) × (b ≡ U32) × (a ≡ U32)
+UnaryRow names (Div n) b a = (0 < n) × IsNumeric b × (a ≡ b)
+UnaryRow names (Rem n) b a = (0 < n) × IsNumeric b × (a ≡ b)
 UnaryRow names First b a = (c : PlainTy) × (b ≡ PairOf a c)
 UnaryRow names Second b a = (c : PlainTy) × (b ≡ PairOf c a)
 UnaryRow names (Layout l) b a = LayoutRow names l b a
@@ -71,7 +102,7 @@ UnaryRow names Then b a = b ≡ a
 
 -- a form with children of types b and c has type a
 abbrev pub BinaryRow : BinaryForm → (b c a : PlainTy) → Type 0
-BinaryRow (binary.Operator o) b c a = (b ≡ U32) × (c ≡ U32) × (a ≡ U32)
+BinaryRow (binary.Operator o) b c a = OperatorRow o b c a
 BinaryRow binary.Pair b c a = IsElement b × IsElement c × (a ≡ PairOf b c)
 BinaryRow binary.Zip b c a =
     (x y : PlainTy) × (n : List Monomial) × (b ≡ ArrayOf x n) × (c ≡ ArrayOf y n)
@@ -97,7 +128,7 @@ Types d g (Fold k xs s b) a =
     × Types d (x ∷ y ∷ g) b y × (a ≡ ArrayOf y (constant 1))
 
 -- ---- programs
--- at most eight sizes, each with its range, and inputs: arrays whose pairs hold elements only, and
+-- at most eight sizes, each with its range, and inputs: arrays whose pairs hold numbers only, and
 -- whose lengths are shown at least 1
 pub record IsDeclared (d : Declared) : Type 0 where
   pub few : length d.names ≤ 8

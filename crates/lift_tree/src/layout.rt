@@ -6,7 +6,7 @@ use crate::length::Product;
 use std::alloc::{AllocError, Global};
 
 /// A layout of an array in which each scalar of it has one place. So what is stored through it has
-/// one place too, and it may stand in writing position.
+/// one place too, and it may stand in writing position, but for `AsVector`.
 #[derive(Debug, Drop)]
 pub enum Layout {
     /// The rows of an array one after another.
@@ -20,6 +20,10 @@ pub enum Layout {
     /// The elements this far from one another, from the first on, then those
     /// from the second on, and so on.
     Stride(Product),
+    /// The vectors of four consecutive numbers of an array of numbers.
+    AsVector,
+    /// The numbers of an array of vectors.
+    AsScalar,
 }
 
 impl Layout {
@@ -33,6 +37,8 @@ impl Layout {
             Layout::Split(length) => Ok(Layout::Split(length.copy(alloc)?)),
             Layout::Reverse => Ok(Layout::Reverse),
             Layout::Stride(step) => Ok(Layout::Stride(step.copy(alloc)?)),
+            Layout::AsVector => Ok(Layout::AsVector),
+            Layout::AsScalar => Ok(Layout::AsScalar),
         }
     }
 }

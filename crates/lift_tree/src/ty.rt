@@ -1,7 +1,7 @@
 //! Types.
 
 ghost use Rattle.std.specs.Prelude.{◌≡◌, IfOk};
-ghost use Rattle.lift_tree.specs.Types.{holds_elements, is_array, is_element, ty_of};
+ghost use Rattle.lift_tree.specs.Types.{are_numbers, holds_elements, is_array, is_element, ty_of};
 
 use size_arith::Poly;
 use std::alloc::{AllocError, Global};
@@ -10,6 +10,8 @@ use std::alloc::{AllocError, Global};
 #[derive(Drop)]
 pub enum Ty {
     Number,
+    /// Four numbers.
+    Vector,
     Pair(Box<Ty>, Box<Ty>),
     /// Of this element type and length.
     Array(Box<Ty>, Poly),
@@ -22,6 +24,7 @@ impl Ty {
     {
         match self {
             Ty::Number => Ok(Ty::Number),
+            Ty::Vector => Ok(Ty::Vector),
             Ty::Pair(a, b) => {
                 let a = Box::new(alloc, a.copy(alloc)?)?;
                 Ok(Ty::Pair(a, Box::new(alloc, b.copy(alloc)?)?))
@@ -38,29 +41,40 @@ impl Ty {
         ensures { result ≡ is_array (ty_of self.now) }
     {
         match self {
-            Ty::Number | Ty::Pair(_, _) => false,
+            Ty::Number | Ty::Vector | Ty::Pair(_, _) => false,
             Ty::Array(_, _) => true,
         }
     }
 
-    /// Whether it is u32, or a pair of such types.
+    /// Whether it is u32, four of these, or a pair of such types.
     pub fn is_element(&self) -> bool
         ensures { result ≡ is_element (ty_of self.now) }
     {
         match self {
-            Ty::Number => true,
+            Ty::Number | Ty::Vector => true,
             Ty::Pair(a, b) => a.is_element() && b.is_element(),
             Ty::Array(_, _) => false,
         }
     }
 
-    /// Whether its pairs hold elements only.
+    // Whether it is u32, or a pair of such types.
+    fn are_numbers(&self) -> bool
+        ensures { result ≡ are_numbers (ty_of self.now) }
+    {
+        match self {
+            Ty::Number => true,
+            Ty::Pair(a, b) => a.are_numbers() && b.are_numbers(),
+            Ty::Vector | Ty::Array(_, _) => false,
+        }
+    }
+
+    /// Whether its pairs hold numbers only.
     pub fn holds_elements(&self) -> bool
         ensures { result ≡ holds_elements (ty_of self.now) }
     {
         match self {
-            Ty::Number => true,
-            Ty::Pair(a, b) => a.is_element() && b.is_element(),
+            Ty::Number | Ty::Vector => true,
+            Ty::Pair(a, b) => a.are_numbers() && b.are_numbers(),
             Ty::Array(element, _) => element.holds_elements(),
         }
     }

@@ -3,7 +3,7 @@ use Rattle.std.proofs.Common.{◌≡◌, ℕ, Bool, true, false, List, [], ◌�
 use Rattle.std.specs.Prelude.{if◌then◌else◌}
 use Rattle.lift_tree.specs.Lists.{Every}
 use Rattle.lowered_tree.specs.declared.rule.NestRule.{NestRule}
-use Rattle.lowered_tree.specs.declared.rule.NestRule.TheVariants.{N1, N2, N3, N4, N5, N6, N7, N8, N9, N10, N11, N12, N13, N14}
+use Rattle.lowered_tree.specs.declared.rule.NestRule.TheVariants.{N1, N2, N3, N4, N5, N6, N7, N8, N9, N10, N11, N12, N13, N14, N15}
 use Rattle.lowered_tree.specs.Around.{at_root}
 use Rattle.lowered_tree.specs.Nest.{Site, sites, broken_at, IsUnbroken, IsLegalWith, earliest_rules, later_rules, lowest, first_of, at_place, first_broken, first_broken_with, leaves_items_idle, size_rule, LegalWithoutFault}
 
@@ -40,6 +40,7 @@ unbroken x h e N11 = (each_unbroken later_rules x e).1.1.1.1.1.1.1.1.1.1.0
 unbroken x h e N12 = refl
 unbroken x h e N13 = (each_unbroken earliest_rules x h).0
 unbroken x h e N14 = (each_unbroken later_rules x e).1.1.1.1.1.1.1.1.1.1.1.0
+unbroken x h e N15 = (each_unbroken later_rules x e).1.1.1.1.1.1.1.1.1.1.1.1.0
 
 -- ---- all nodes
 

@@ -1,5 +1,7 @@
 -- What a nest rule looks at in a node itself.
-use Rattle.std.specs.Prelude.{Bool, true, false, not, ◌||◌}
+use Rattle.std.specs.Prelude.{Bool, true, false, not, ◌&&◌, ◌||◌}
+use Rattle.lift_tree.specs.declared.layout.Layout.{Layout}
+use Rattle.lift_tree.specs.declared.layout.Layout.TheVariants as layout
 use Rattle.lift_tree.specs.declared.term.UnaryForm.TheVariants as unary
 use Rattle.lift_tree.specs.declared.term.BinaryForm.TheVariants as binary
 use Rattle.lift_tree.specs.declared.term.MapKind.{MapKind}
@@ -40,6 +42,10 @@ abbrev pub is_private_copy : Tree → Bool
 is_private_copy (Unary unary.ToPrivate t) = true
 is_private_copy _ = false
 
+-- a copy to either
+abbrev pub is_copy : Tree → Bool
+is_copy t = is_local_copy t || is_private_copy t
+
 -- a cut between two kernels
 abbrev pub is_then : Tree → Bool
 is_then (Unary unary.Then t) = true
@@ -57,9 +63,19 @@ has_then (Let v b) = has_then v || has_then b
 has_then (Map k xs b) = has_then xs || has_then b
 has_then (Fold k xs s b) = has_then xs || has_then s || has_then b
 
+-- the layouts that are written through: all but that which makes vectors of numbers
+abbrev pub is_written_through : Layout → Bool
+is_written_through layout.Join = true
+is_written_through layout.Transpose = true
+is_written_through (layout.Split m) = true
+is_written_through layout.Reverse = true
+is_written_through (layout.Stride m) = true
+is_written_through layout.AsVector = false
+is_written_through layout.AsScalar = true
+
 -- seen through layouts that are written through and the bodies of lets, a map over a group's items
 abbrev pub shows_local_map : Tree → Bool
-shows_local_map (Unary (unary.Layout l) t) = shows_local_map t
+shows_local_map (Unary (unary.Layout l) t) = is_written_through l && shows_local_map t
 shows_local_map (Let v b) = shows_local_map b
 shows_local_map (Map k xs b) = is_local k
 shows_local_map _ = false
@@ -79,13 +95,14 @@ abbrev pub is_let_of_array : Tree → Annotation → Bool
 is_let_of_array (Let v b) (Two a n m) = not (is_element (type_in n))
 is_let_of_array _ _ = false
 
--- zip, slide, pad, first, second
+-- zip, slide, pad, first, second, and the layout that makes vectors
 abbrev pub is_read_alone : Tree → Bool
 is_read_alone (Binary binary.Zip t u) = true
 is_read_alone (Unary (unary.Slide s k) t) = true
 is_read_alone (Unary (unary.Pad l r) t) = true
 is_read_alone (Unary unary.First t) = true
 is_read_alone (Unary unary.Second t) = true
+is_read_alone (Unary (unary.Layout l) t) = not (is_written_through l)
 is_read_alone _ = false
 
 -- a variable, an input, a copy: what has its place in memory already

@@ -1,10 +1,12 @@
 -- Who runs a term.
+use Rattle.std.specs.Prelude.{if◌then◌else◌}
 use Rattle.lift_tree.specs.declared.term.MapKind.{MapKind}
 use Rattle.lift_tree.specs.declared.term.MapKind.TheVariants.{Plain, Over, Sequential}
 use Rattle.lift_tree.specs.declared.term.Level.TheVariants.{Launch, Groups, Items}
 use Rattle.lift_tree.specs.declared.term.Dimension.TheVariants.{X, Y}
 use Rattle.lift_tree.specs.declared.term.UnaryForm.TheVariants.{Layout}
 use Rattle.lift_tree.specs.Tree.{Tree, Unary, Let, Map}
+use Rattle.lowered_tree.specs.Forms.{is_written_through}
 use Rattle.lowered_tree.specs.declared.kind.NestKind.{NestKind}
 use Rattle.lowered_tree.specs.declared.kind.NestKind.TheVariants.{Task, OverLaunch, OverGroups, OverGrid}
 
@@ -19,7 +21,7 @@ spread_over Sequential = Task
 
 -- and the map on top, seen through layouts that are written through and the bodies of lets
 abbrev pub nest_kind : Tree → NestKind
-nest_kind (Unary (Layout l) t) = nest_kind t
+nest_kind (Unary (Layout l) t) = if is_written_through l then nest_kind t else Task
 nest_kind (Let v b) = nest_kind b
 nest_kind (Map k xs b) = spread_over k
 nest_kind _ = Task

@@ -1,8 +1,9 @@
 pub mod Elements
 pub mod Kinds
 pub mod Pairs
-pub mod Around
 pub mod Forms
+pub mod Aligned
+pub mod Around
 pub mod Nest
 pub mod Nodes
 pub mod Spaces

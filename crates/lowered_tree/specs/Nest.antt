@@ -1,18 +1,22 @@
--- Which nests of maps, folds and copies can be printed: twelve rules, and one before them, each
+-- Which nests of maps, folds and copies can be printed: thirteen rules, and one before them, each
 -- broken at single nodes, and one of the whole.
-use Rattle.std.specs.Prelude.{◌≡◌, ◌↔◌, ℕ, ◌*◌, Bool, false, not, ◌&&◌, ◌||◌, List, [], ◌∷◌, ◌++◌, map, nat_lt, Option, Some, None, if◌then◌else◌}
+use Rattle.std.specs.Prelude.{◌≡◌, ◌↔◌, ℕ, ◌*◌, Bool, true, false, not, ◌&&◌, ◌||◌, List, [], ◌∷◌, ◌++◌, map, nat_lt, Option, Some, None, if◌then◌else◌}
 use Rattle.lift_tree.specs.Tree.{Tree, Unary, Binary, Select, Let, Map, Fold}
 use Rattle.lift_tree.specs.Annotations.{Annotation, One, Two, Three, type_in}
 use Rattle.lift_tree.specs.Lists.{Every}
-use Rattle.lowered_tree.specs.declared.around.Around.{Around}
+use Rattle.lift_tree.specs.declared.layout.Layout.TheVariants as layout
+use Rattle.lift_tree.specs.declared.term.UnaryForm.TheVariants as unary
+use Rattle.lowered_tree.specs.declared.around.AddressSpace.{AddressSpace}
+use Rattle.lowered_tree.specs.declared.around.AddressSpace.TheVariants.{Global, Local, Private}
 use Rattle.lowered_tree.specs.declared.rule.NestRule.{NestRule}
-use Rattle.lowered_tree.specs.declared.rule.NestRule.TheVariants.{N1, N2, N3, N4, N5, N6, N7, N8, N9, N10, N11, N12, N13, N14}
-use Rattle.lift_tree.specs.Types.{is_element}
-use Rattle.lowered_tree.specs.Elements.{hangs_on_sizes}
+use Rattle.lowered_tree.specs.declared.rule.NestRule.TheVariants.{N1, N2, N3, N4, N5, N6, N7, N8, N9, N10, N11, N12, N13, N14, N15}
+use Rattle.lift_tree.specs.Types.{PlainTy, is_element}
+use Rattle.lowered_tree.specs.Aligned.{is_aligned}
+use Rattle.lowered_tree.specs.Elements.{hangs_on_sizes, holds_vectors}
 use Rattle.lowered_tree.specs.Kinds.{is_global, is_over_groups, is_local, is_sequential, is_parallel, is_task, has_rows}
 use Rattle.lowered_tree.specs.Pairs.{is_awaited, is_unpaired}
-use Rattle.lowered_tree.specs.Forms.{is_map_of, is_undecided, is_lowered_map, is_lowered_fold, is_local_copy, is_private_copy, copies_local_map, is_let_of_element, is_let_of_array, is_read_alone, is_placed, is_then}
-use Rattle.lowered_tree.specs.Around.{at_root, operand, under_form, argument, let_body, map_body, fold_body}
+use Rattle.lowered_tree.specs.Forms.{is_map_of, is_undecided, is_lowered_map, is_lowered_fold, is_local_copy, is_private_copy, is_copy, copies_local_map, is_let_of_element, is_let_of_array, is_read_alone, is_placed, is_then}
+use Rattle.lowered_tree.specs.Around.{Around, at_root, operand, under_form, argument, let_body, map_body, fold_body}
 
 -- ---- nodes
 
@@ -48,10 +52,10 @@ sites s (Let v b) (Two a n m) =
     record { place = []; around = s; tree = Let v b; types = Two a n m }
     ∷
     (under 0 (sites (argument s (is_element (type_in n)) a) v n)
-    ++ under 1 (sites (let_body s (is_element (type_in n)) a) b m))
+    ++ under 1 (sites (let_body s (is_element (type_in n)) v a) b m))
 sites s (Map h xs b) (Two a n m) =
     record { place = []; around = s; tree = Map h xs b; types = Two a n m }
-    ∷ (under 0 (sites (argument s false a) xs n) ++ under 1 (sites (map_body s h b a) b m))
+    ∷ (under 0 (sites (argument s false a) xs n) ++ under 1 (sites (map_body s h xs b a) b m))
 sites s (Fold h xs z b) (Three a n m k) =
     record { place = []; around = s; tree = Fold h xs z b; types = Three a n m k }
     ∷
@@ -66,6 +70,26 @@ site_at s t n = record { place = []; around = s; tree = t; types = n }
 -- the root of a term
 abbrev pub root_site : Tree → Annotation → Site
 root_site t n = site_at (at_root t) t n
+
+-- ---- vectors
+
+-- the work-item's own
+abbrev pub is_private : AddressSpace → Bool
+is_private Global = false
+is_private Local = false
+is_private Private = true
+
+-- in writing position, with no layout but join and split up to the
+-- root or to a copy to local memory
+abbrev pub is_in_order : Around → Bool
+is_in_order s = s.is_written && not s.is_reordered && not (is_private s.space)
+
+-- a node whose vectors don't lie in fours of one array: one that makes vectors of an array that
+-- isn't aligned, one whose vectors are stored elsewhere than in order, or a copy that holds vectors
+abbrev pub scatters_vectors : Around → Tree → PlainTy → Bool
+scatters_vectors s (Unary (unary.Layout layout.AsVector) t) a = not (is_aligned s.aligned t)
+scatters_vectors s (Unary (unary.Layout layout.AsScalar) t) a = not (is_in_order s)
+scatters_vectors s t a = is_copy t && holds_vectors a
 
 -- ---- rules
 
@@ -97,6 +121,7 @@ breaks N11 s t n = (s.is_written && not (is_element (type_in n))) && is_placed t
 breaks N12 s t n = false
 breaks N13 s t n = is_then t
 breaks N14 s t n = s.is_paired && is_unpaired s.awaited t
+breaks N15 s t n = scatters_vectors s t (type_in n)
 
 -- the rule is broken at the site
 abbrev pub broken_at : NestRule → Site → Bool
@@ -120,7 +145,7 @@ earliest_rules = N13 ∷ []
 
 -- all other rules that a node breaks
 abbrev pub later_rules : List NestRule
-later_rules = N1 ∷ N2 ∷ N3 ∷ N4 ∷ N5 ∷ N6 ∷ N7 ∷ N8 ∷ N9 ∷ N10 ∷ N11 ∷ N14 ∷ []
+later_rules = N1 ∷ N2 ∷ N3 ∷ N4 ∷ N5 ∷ N6 ∷ N7 ∷ N8 ∷ N9 ∷ N10 ∷ N11 ∷ N14 ∷ N15 ∷ []
 
 -- the first of these rules that is broken at the node
 abbrev pub lowest : List NestRule → Site → Option NestRule
@@ -145,7 +170,8 @@ first_broken rs (x ∷ xs) = first_of (at_place x.place (lowest rs x)) (first_br
 
 -- ---- a fixed local size
 
--- a group would have more than one item, and all but one would do nothing, since no map is parallel;
+-- a group would have more than one item, and all but one would do
+-- nothing, since no map is parallel;
 -- or more than one row of items, and all but one would, since none is along dimension 1
 abbrev pub leaves_items_idle : Option (ℕ × ℕ) → Tree → Bool
 leaves_items_idle (Some size) t =

@@ -2,9 +2,8 @@
 use Rattle.std.specs.Prelude.{Bool, ◌&&◌, ◌||◌, List, [], ◌∷◌, if◌then◌else◌}
 use Rattle.lift_tree.specs.Tree.{Tree}
 use Rattle.lift_tree.specs.Annotations.{Annotation, type_in}
-use Rattle.lowered_tree.specs.declared.around.Around.{Around}
 use Rattle.lowered_tree.specs.declared.around.AddressSpace.{AddressSpace}
-use Rattle.lowered_tree.specs.Around.{at_root}
+use Rattle.lowered_tree.specs.Around.{Around, at_root}
 use Rattle.lift_tree.specs.Types.{is_element}
 use Rattle.lowered_tree.specs.Forms.{is_lowered_map, is_lowered_fold}
 use Rattle.lowered_tree.specs.Nest.{Site, sites}

@@ -1,13 +1,15 @@
 //! What is around a node of a term.
 
-ghost use Rattle.std.specs.Prelude.{◌≡◌, ◌&&◌};
+ghost use Rattle.std.specs.Prelude.{◌≡◌, ◌&&◌, Bool, List, []};
 ghost use Rattle.lift_tree.specs.Types.{ty_of, is_element};
 ghost use Rattle.lift_tree.specs.FixedSizes.{asked, size_fixed};
-ghost use Rattle.lift_tree.specs.Tree.{tree_of};
+ghost use Rattle.lift_tree.specs.Tree.{Tree, tree_of};
 ghost use Rattle.lowered_tree.specs.Kinds.{asks_of, has_rows, is_local, is_of_level, is_over_rows, is_parallel, is_sequential, is_task};
 ghost use Rattle.lowered_tree.specs.Pairs.{pair_begun, shows_row};
-ghost use Rattle.lowered_tree.specs.Around.{at_root, operand, passed, copied, under_form, argument, let_body, outer_body, own_body, map_body, fold_body};
+ghost use Rattle.lowered_tree.specs.Around.{around_of, at_root, operand, passed, laid_out, reorders, copied, under_form, argument, let_body, outer_body, own_body, map_body, fold_body};
+ghost use Rattle.lowered_tree.specs.Aligned.{under_bound, under_fold};
 
+use crate::forms::is_written_through;
 use lift_tree::asks::Asks;
 use lift_tree::layout::Layout;
 use lift_tree::local_size::LocalSize;
@@ -58,6 +60,9 @@ pub struct Around {
     pub is_between: bool,
     /// It is in the body of a map over a group's items along dimension 1.
     pub in_rows: bool,
+    /// A layout other than join and split stands between it and the nearest copy around it, or the
+    /// root.
+    pub is_reordered: bool,
     /// Where what is written here goes: to the nearest copy around it, else to the output.
     pub space: AddressSpace,
 }
@@ -160,6 +165,20 @@ pub fn pair_begun(kind: MapKind, body: &Term) -> Option<Level>
     }
 }
 
+// Whether the layout is another than join and split.
+fn reorders(layout: &Layout) -> bool
+    ensures { result ≡ reorders layout.now }
+{
+    match layout {
+        Layout::Split(_) | Layout::Join => false,
+        Layout::Transpose
+        | Layout::Reverse
+        | Layout::Stride(_)
+        | Layout::AsVector
+        | Layout::AsScalar => true,
+    }
+}
+
 /// What a term asks of each launch, with the local size that its script fixes.
 pub fn asks_of(term: &Term, local: Option<LocalSize>) -> Asks
     ensures { asked result ≡ asks_of (size_fixed local) (tree_of term.now) }
@@ -176,7 +195,7 @@ impl Around {
     /// What is around the root: it is written, and in a term without parallel maps
     /// everything is one work-item's.
     pub fn root(term: &Term) -> Around
-        ensures { result ≡ at_root (tree_of term.now) }
+        ensures { around_of result [] ≡ at_root (tree_of term.now) }
     {
         Around {
             is_written: true,
@@ -192,6 +211,7 @@ impl Around {
             awaited: None,
             is_between: false,
             in_rows: false,
+            is_reordered: false,
             space: AddressSpace::Global,
         }
     }
@@ -199,7 +219,8 @@ impl Around {
     /// What is around a child that is no argument, body or copy. The parent has
     /// this type, as in the calls below.
     pub fn operand(self, parent: &Ty) -> Around
-        ensures { result ≡ operand self (ty_of parent.now) }
+        ensures { (g : List Bool)
+            → around_of result g ≡ operand (around_of self g) (ty_of parent.now) }
     {
         Around {
             is_written: false,
@@ -209,33 +230,49 @@ impl Around {
         }
     }
 
-    /// What is around the operand of a layout that is written through, which
-    /// is written where the layout is. A pair's inner map is seen through join, split and transpose
-    /// alone.
-    pub fn passed(self, layout: &Layout, parent: &Ty) -> Around
-        ensures { result ≡ passed self layout.now (ty_of parent.now) }
+    // What is around the operand of a layout that is written through, which
+    // is written where the layout is. A pair's inner map is seen through join, split and transpose
+    // alone.
+    fn passed(self, layout: &Layout, parent: &Ty) -> Around
+        ensures { (g : List Bool)
+            → around_of result g ≡ passed (around_of self g) layout.now (ty_of parent.now) }
     {
         let awaited = match layout {
             Layout::Split(_) | Layout::Join | Layout::Transpose => self.awaited,
-            Layout::Reverse | Layout::Stride(_) => None,
+            Layout::Reverse | Layout::Stride(_) | Layout::AsVector | Layout::AsScalar => None,
         };
         Around {
             is_written: self.is_written && !parent.is_element(),
             in_element: self.in_element || parent.is_element(),
             awaited,
+            is_reordered: self.is_reordered || reorders(layout),
             ..self
+        }
+    }
+
+    /// What is around the operand of a layout.
+    pub fn laid_out(self, layout: &Layout, parent: &Ty) -> Around
+        ensures { (g : List Bool)
+            → around_of result g ≡ laid_out (around_of self g) layout.now (ty_of parent.now) }
+    {
+        if is_written_through(layout) {
+            self.passed(layout, parent)
+        } else {
+            self.operand(parent)
         }
     }
 
     /// What is around the operand of a copy to this space.
     pub fn copied(self, space: AddressSpace, parent: &Ty) -> Around
-        ensures { result ≡ copied self space (ty_of parent.now) }
+        ensures { (g : List Bool)
+            → around_of result g ≡ copied (around_of self g) space (ty_of parent.now) }
     {
         Around {
             is_written: true,
             in_argument: false,
             in_element: self.in_element || parent.is_element(),
             awaited: None,
+            is_reordered: false,
             space,
             ..self
         }
@@ -243,10 +280,11 @@ impl Around {
 
     /// What is around the one child of this form.
     pub fn under_form(self, form: &UnaryForm, parent: &Ty) -> Around
-        ensures { result ≡ under_form self form.now (ty_of parent.now) }
+        ensures { (g : List Bool)
+            → around_of result g ≡ under_form (around_of self g) form.now (ty_of parent.now) }
     {
         match form {
-            UnaryForm::Layout(layout) => self.passed(layout, parent),
+            UnaryForm::Layout(layout) => self.laid_out(layout, parent),
             UnaryForm::ToLocal => self.copied(AddressSpace::Local, parent),
             UnaryForm::ToPrivate => self.copied(AddressSpace::Private, parent),
             UnaryForm::Div(_)
@@ -262,7 +300,8 @@ impl Around {
     /// What is around the array of a map or fold, or around a let's
     /// value. An element is no argument.
     pub fn argument(self, of_element: bool, parent: &Ty) -> Around
-        ensures { result ≡ argument self of_element (ty_of parent.now) }
+        ensures { (g : List Bool)
+            → around_of result g ≡ argument (around_of self g) of_element (ty_of parent.now) }
     {
         Around {
             is_written: false,
@@ -275,7 +314,8 @@ impl Around {
 
     /// What is around a let's body, where the value is an element or isn't.
     pub fn let_body(self, of_element: bool, parent: &Ty) -> Around
-        ensures { result ≡ let_body self of_element (ty_of parent.now) }
+        ensures { (g : List Bool) (v : Tree) → around_of result (under_bound g v)
+            ≡ let_body (around_of self g) of_element v (ty_of parent.now) }
     {
         Around {
             is_written: self.is_written && !parent.is_element(),
@@ -286,10 +326,11 @@ impl Around {
         }
     }
 
-    /// What is around the body of a map that begins a pair of this level: the pair is one map, whose
-    /// body is the inner one's.
+    /// What is around the body of a map that begins a pair of this level: the pair is one map,
+    /// whose body is the inner one's.
     fn outer_body(self, level: Level, parent: &Ty) -> Around
-        ensures { result ≡ outer_body self level (ty_of parent.now) }
+        ensures { (g : List Bool) (xs : Tree) → around_of result (under_bound g xs)
+            ≡ outer_body (around_of self g) level xs (ty_of parent.now) }
     {
         Around {
             is_written: true,
@@ -303,7 +344,8 @@ impl Around {
 
     /// What is around the body of a map that begins no pair.
     fn own_body(self, kind: MapKind, parent: &Ty) -> Around
-        ensures { result ≡ own_body self kind (ty_of parent.now) }
+        ensures { (g : List Bool) (xs : Tree) → around_of result (under_bound g xs)
+            ≡ own_body (around_of self g) kind xs (ty_of parent.now) }
     {
         let is_global = is_of_level(kind, Level::Launch);
         let is_group = is_of_level(kind, Level::Groups);
@@ -322,13 +364,15 @@ impl Around {
             awaited: None,
             is_between: false,
             in_rows: self.in_rows || is_over_item_rows(kind),
+            is_reordered: self.is_reordered,
             space: self.space,
         }
     }
 
     /// What is around the body of a map with this body.
     pub fn map_body(self, kind: MapKind, body: &Term, parent: &Ty) -> Around
-        ensures { result ≡ map_body self kind (tree_of body.now) (ty_of parent.now) }
+        ensures { (g : List Bool) (xs : Tree) → around_of result (under_bound g xs)
+            ≡ map_body (around_of self g) kind xs (tree_of body.now) (ty_of parent.now) }
     {
         match pair_begun(kind, body) {
             Some(level) => self.outer_body(level, parent),
@@ -338,7 +382,8 @@ impl Around {
 
     /// What is around a fold's body.
     pub fn fold_body(self, parent: &Ty) -> Around
-        ensures { result ≡ fold_body self (ty_of parent.now) }
+        ensures { (g : List Bool) → around_of result (under_fold g)
+            ≡ fold_body (around_of self g) (ty_of parent.now) }
     {
         Around {
             is_written: false,

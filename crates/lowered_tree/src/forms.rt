@@ -4,12 +4,13 @@ ghost use Rattle.std.specs.Prelude.{◌≡◌};
 ghost use Rattle.lift_tree.specs.Tree.{tree_of};
 ghost use Rattle.lift_tree.specs.Types.{ty_of};
 ghost use Rattle.lift_tree.specs.Annotations.{annotation_of};
-ghost use Rattle.lowered_tree.specs.Elements.{names_a_size, is_over_sizes, hangs_on_sizes};
+ghost use Rattle.lowered_tree.specs.Elements.{names_a_size, is_over_sizes, hangs_on_sizes, holds_vectors};
 ghost use Rattle.lowered_tree.specs.Kinds.{is_global, is_local, is_over_groups, is_parallel, is_sequential};
 ghost use Rattle.lowered_tree.specs.Pairs.{is_awaited, is_unpaired};
-ghost use Rattle.lowered_tree.specs.Forms.{is_map_of, is_undecided, is_lowered_map, is_lowered_fold, is_local_copy, is_private_copy, shows_local_map, copies_local_map, is_let_of_element, is_let_of_array, is_read_alone, is_placed, is_then};
+ghost use Rattle.lowered_tree.specs.Forms.{is_map_of, is_undecided, is_lowered_map, is_lowered_fold, is_local_copy, is_private_copy, is_copy, is_written_through, shows_local_map, copies_local_map, is_let_of_element, is_let_of_array, is_read_alone, is_placed, is_then};
 
 use crate::around::{is_of_level, is_parallel, is_sequential, pair_begun};
+use lift_tree::layout::Layout;
 use lift_tree::term::{BinaryForm, Dimension, FoldKind, Level, MapKind, Term, UnaryForm};
 use lift_tree::ty::Ty;
 use lift_tree::typed::NodeTypes;
@@ -38,9 +39,21 @@ pub fn hangs_on_sizes(ty: &Ty) -> bool
     ensures { result ≡ hangs_on_sizes (ty_of ty.now) }
 {
     match ty {
-        Ty::Number => false,
+        Ty::Number | Ty::Vector => false,
         Ty::Pair(a, b) => hangs_on_sizes(a) || hangs_on_sizes(b),
         Ty::Array(element, length) => is_over_sizes(length.as_slice()) || hangs_on_sizes(element),
+    }
+}
+
+/// Whether a vector is in a value of the type.
+pub fn holds_vectors(ty: &Ty) -> bool
+    ensures { result ≡ holds_vectors (ty_of ty.now) }
+{
+    match ty {
+        Ty::Number => false,
+        Ty::Vector => true,
+        Ty::Pair(a, b) => holds_vectors(a) || holds_vectors(b),
+        Ty::Array(element, _) => holds_vectors(element),
     }
 }
 
@@ -167,6 +180,13 @@ pub fn is_private_copy(term: &Term) -> bool
     }
 }
 
+/// Whether the node is a copy.
+pub fn is_copy(term: &Term) -> bool
+    ensures { result ≡ is_copy (tree_of term.now) }
+{
+    is_local_copy(term) || is_private_copy(term)
+}
+
 /// Whether the node is a cut between two kernels.
 pub fn is_then(term: &Term) -> bool
     ensures { result ≡ is_then (tree_of term.now) }
@@ -177,13 +197,30 @@ pub fn is_then(term: &Term) -> bool
     }
 }
 
+/// Whether the layout is written through: all are but that which makes vectors of numbers.
+pub fn is_written_through(layout: &Layout) -> bool
+    ensures { result ≡ is_written_through layout.now }
+{
+    match layout {
+        Layout::Join
+        | Layout::Transpose
+        | Layout::Split(_)
+        | Layout::Reverse
+        | Layout::Stride(_)
+        | Layout::AsScalar => true,
+        Layout::AsVector => false,
+    }
+}
+
 // Whether it is a map over a group's items, seen through layouts that are written
 // through and the bodies of lets.
 fn shows_local_map(term: &Term) -> bool
     ensures { result ≡ shows_local_map (tree_of term.now) }
 {
     match term {
-        Term::Unary(UnaryForm::Layout(_), a) => shows_local_map(a),
+        Term::Unary(UnaryForm::Layout(layout), a) => {
+            is_written_through(layout) && shows_local_map(a)
+        }
         Term::Let(_, body) => shows_local_map(body),
         Term::Map(kind, _, _) => is_of_level(*kind, Level::Items),
         _ => false,
@@ -220,7 +257,8 @@ pub fn is_let_of_array(term: &Term, types: &NodeTypes) -> bool
     }
 }
 
-/// Whether the node is zip, slide, pad, first or second, through which nothing is written.
+/// Whether the node is zip, slide, pad, first or second, or makes vectors of numbers: through
+/// which nothing is written.
 pub fn is_read_alone(term: &Term) -> bool
     ensures { result ≡ is_read_alone (tree_of term.now) }
 {
@@ -230,6 +268,7 @@ pub fn is_read_alone(term: &Term) -> bool
             UnaryForm::Slide(_, _) | UnaryForm::Pad(_, _) | UnaryForm::First | UnaryForm::Second,
             _,
         ) => true,
+        Term::Unary(UnaryForm::Layout(layout), _) => !is_written_through(layout),
         _ => false,
     }
 }

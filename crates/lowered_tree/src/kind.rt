@@ -4,6 +4,7 @@ ghost use Rattle.std.specs.Prelude.{◌≡◌};
 ghost use Rattle.lift_tree.specs.Tree.{tree_of};
 ghost use Rattle.lowered_tree.specs.Kind.{nest_kind};
 
+use crate::forms::is_written_through;
 use lift_tree::term::{Dimension, Level, MapKind, Term, UnaryForm};
 
 /// Who runs a term whose nest is legal.
@@ -25,7 +26,7 @@ pub fn nest_kind(term: &Term) -> NestKind
     ensures { result ≡ nest_kind (tree_of term.now) }
 {
     match term {
-        Term::Unary(UnaryForm::Layout(_), a) => nest_kind(a),
+        Term::Unary(UnaryForm::Layout(layout), a) if is_written_through(layout) => nest_kind(a),
         Term::Let(_, body) => nest_kind(body),
         Term::Map(MapKind::Over(Level::Launch, _), _, _) => NestKind::OverLaunch,
         Term::Map(MapKind::Over(Level::Groups, Dimension::X), _, _) => NestKind::OverGroups,

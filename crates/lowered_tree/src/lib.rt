@@ -4,6 +4,7 @@
 //! The patterns are those of Lift IR (CGO 2017); the rules of the nest are this project's own.
 #![tactic(auto)]
 
+pub mod aligned;
 pub mod around;
 pub mod copies;
 pub mod forms;

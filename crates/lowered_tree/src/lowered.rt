@@ -1,6 +1,6 @@
 //! Lowered terms, and those whose nest is legal.
 
-ghost use Rattle.std.specs.Prelude.{◌≡◌, None, map};
+ghost use Rattle.std.specs.Prelude.{◌≡◌, None, [], map};
 ghost use Rattle.std.proofs.Props.{props};
 ghost use Rattle.lift_tree.specs.Tree.{tree_of};
 ghost use Rattle.lift_tree.specs.Annotations.{annotation_of};
@@ -42,7 +42,7 @@ impl Lowered {
 
     /// The root.
     pub fn root(&self) -> Node<'_>
-        ensures { own_site result
+        ensures { own_site [] result
             ≡ root_site (tree_of self.now.term) (annotation_of self.now.types) }
     {
         Node {

@@ -1,11 +1,12 @@
 //! A node of a term with what is around it, and its children.
 
-ghost use Rattle.std.specs.Prelude.{◌≡◌, ◌∷◌, ◌<◌};
+ghost use Rattle.std.specs.Prelude.{◌≡◌, ◌∷◌, ◌<◌, Bool, List};
 ghost use Rattle.lift_tree.specs.Types.{ty_of};
 ghost use Rattle.lift_tree.specs.Annotations.{annotation_of, type_in};
 ghost use Rattle.lift_tree.specs.Tree.{nodes, tree_of};
 ghost use Rattle.lowered_tree.specs.Nest.{sites};
-ghost use Rattle.lowered_tree.specs.Nodes.{own_site, sites_of, sites_among, nodes_of, nodes_among};
+ghost use Rattle.lowered_tree.specs.Around.{around_of};
+ghost use Rattle.lowered_tree.specs.Nodes.{own_site, sites_of, sites_among, under_last_of, nodes_of, nodes_among};
 
 use crate::around::Around;
 use lift_tree::term::Term;
@@ -39,7 +40,8 @@ impl<'t> Node<'t> {
 
     /// The children, each with what is around it. A term whose types are another's has none.
     pub fn children(self) -> Children<'t>
-        ensures sites { sites_of self.entry ≡ own_site self.entry ∷ sites_among result }
+        ensures sites { (g : List Bool) → sites_of g self.entry
+            ≡ own_site g self.entry ∷ sites_among g (under_last_of g self.entry) result }
         ensures fewer { nodes_among result < nodes_of self.entry }
     {
         let around = self.around;
@@ -80,7 +82,8 @@ impl<'t> Node<'t> {
 
 // The node of this term.
 fn node_at<'t>(around: Around, term: &'t Term, types: &'t NodeTypes) -> Node<'t>
-    ensures sites { sites_of result ≡ sites around (tree_of term.now) (annotation_of types.now) }
+    ensures sites { (g : List Bool) → sites_of g result
+        ≡ sites (around_of around g) (tree_of term.now) (annotation_of types.now) }
     ensures nodes { nodes_of result ≡ nodes (tree_of term.now) }
 {
     Node {

@@ -25,7 +25,7 @@ pub enum NestRule {
     N8,
     /// A parallel map in the body of a sequential map or of a let of an element.
     N9,
-    /// In writing position, and no element: zip, slide, pad, first or second.
+    /// In writing position, and no element: zip, slide, pad, first, second or asVector.
     N10,
     /// In writing position, and no element: a variable, an input or a copy.
     N11,
@@ -37,6 +37,10 @@ pub enum NestRule {
     /// In a term with a map along dimension 1: such a map that begins no pair, or a parallel map
     /// along dimension 0 that is no pair's inner one.
     N14,
+    /// An asVector of an array that isn't aligned; an asScalar outside writing positions, under a
+    /// private copy, or with a layout other than join and split above
+    /// it; a copy that holds vectors.
+    N15,
 }
 
 impl NestRule {
@@ -44,7 +48,7 @@ impl NestRule {
     pub const EARLIEST: [NestRule; 1] = [NestRule::N13];
 
     /// All other rules that a node breaks, the lowest first.
-    pub const LATER: [NestRule; 12] = [
+    pub const LATER: [NestRule; 13] = [
         NestRule::N1,
         NestRule::N2,
         NestRule::N3,
@@ -57,5 +61,6 @@ impl NestRule {
         NestRule::N10,
         NestRule::N11,
         NestRule::N14,
+        NestRule::N15,
     ];
 }

@@ -39,6 +39,7 @@ space_of space.Private = terms.PrivateMemory
 abbrev pub load_set_of : LoadSet → terms.LoadSet
 load_set_of load_set.Skip = terms.Skip
 load_set_of load_set.Take = terms.Take
+load_set_of load_set.TakeFour = terms.TakeFour
 load_set_of (load_set.Each' p a q b) = terms.Each (load_set_of a) (load_set_of b)
 
 -- the layout of a form over an operand, its lengths polynomials
@@ -52,6 +53,8 @@ term_of (term.Bound v) = terms.Bound v
 term_of (term.Source v) = terms.Source v
 term_of (term.Apply' o p a q b) = terms.Apply o (term_of a) (term_of b)
 term_of (term.ApplyNumber' o n p a) = terms.ApplyNumber o n (term_of a)
+term_of (term.ApplyLanes' o l r p a q b) = terms.ApplyLanes o l r (term_of a) (term_of b)
+term_of (term.DivideLanes' o n p a) = terms.DivideLanes o n (term_of a)
 term_of (term.Select' p c q a r b) = terms.Select (term_of c) (term_of a) (term_of b)
 term_of (term.Pair' p a q b) = terms.Both false (term_of a) (term_of b)
 term_of (term.Zip' p a q b) = terms.Both true (term_of a) (term_of b)

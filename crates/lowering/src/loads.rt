@@ -34,6 +34,7 @@ fn all_scalars(alloc: Global, ty: &Ty) -> Result<LoadSet, AllocError>
 {
     match ty {
         Ty::Number => Ok(LoadSet::Take),
+        Ty::Vector => Ok(LoadSet::TakeFour),
         Ty::Pair(a, b) => {
             let a = all_scalars(alloc, a)?;
             each(alloc, a, all_scalars(alloc, b)?)
@@ -67,8 +68,10 @@ fn merged(alloc: Global, one: LoadSet, other: LoadSet) -> Result<LoadSet, AllocE
     match (one, other) {
         (LoadSet::Skip, other) => Ok(other),
         (LoadSet::Take, _) => Ok(LoadSet::Take),
+        (LoadSet::TakeFour, _) => Ok(LoadSet::TakeFour),
         (one, LoadSet::Skip) => Ok(one),
         (_, LoadSet::Take) => Ok(LoadSet::Take),
+        (_, LoadSet::TakeFour) => Ok(LoadSet::TakeFour),
         (LoadSet::Each(a, b), LoadSet::Each(c, d)) => {
             let left = merged(alloc, Box::into_inner(a), Box::into_inner(c))?;
             each(

@@ -71,7 +71,7 @@ fn elements(ty: &Ty) -> &Ty
 {
     match ty {
         Ty::Array(element, _) => element,
-        Ty::Number | Ty::Pair(_, _) => ty,
+        Ty::Number | Ty::Vector | Ty::Pair(_, _) => ty,
     }
 }
 
@@ -81,7 +81,7 @@ fn length(alloc: Global, ty: &Ty) -> Result<Poly, AllocError>
 {
     match ty {
         Ty::Array(_, length) => length.copy(alloc),
-        Ty::Number | Ty::Pair(_, _) => Ok(Poly::zero(alloc)),
+        Ty::Number | Ty::Vector | Ty::Pair(_, _) => Ok(Poly::zero(alloc)),
     }
 }
 
@@ -210,6 +210,28 @@ fn placed_element(alloc: Global, place: Place, ty: &Ty, term: Term) -> Result<Te
     }
 }
 
+// Whether it is a vector's type.
+fn is_vector(ty: &Ty) -> bool
+    ensures { result ≡ spec.is_vector (ty_of ty.now) }
+{
+    match ty {
+        Ty::Vector => true,
+        Ty::Number | Ty::Pair(_, _) | Ty::Array(_, _) => false,
+    }
+}
+
+// A quotient or remainder of this type by a number.
+fn divided(ty: &Ty, operator: Op, n: u32, operand: Box<Term>) -> Term
+    ensures { term_of result
+        ≡ spec.divided (spec.is_vector (ty_of ty.now)) operator n (term_of operand.value) }
+{
+    if is_vector(ty) {
+        Term::DivideLanes(operator, n, operand)
+    } else {
+        Term::ApplyNumber(operator, n, operand)
+    }
+}
+
 // A form of this type over an operand of that type.
 fn formed(
     alloc: Global,
@@ -224,8 +246,8 @@ fn formed(
         (ty_of ty.now) (ty_of operand_ty.now) (term_of operand.value)) }
 {
     match form {
-        UnaryForm::Div(n) => placed(alloc, place, ty, Term::ApplyNumber(Op::Div, *n, operand)),
-        UnaryForm::Rem(n) => placed(alloc, place, ty, Term::ApplyNumber(Op::Rem, *n, operand)),
+        UnaryForm::Div(n) => placed(alloc, place, ty, divided(ty, Op::Div, *n, operand)),
+        UnaryForm::Rem(n) => placed(alloc, place, ty, divided(ty, Op::Rem, *n, operand)),
         UnaryForm::First => placed(alloc, place, ty, Term::First(operand)),
         UnaryForm::Second => placed(alloc, place, ty, Term::Second(operand)),
         UnaryForm::ToPrivate => Ok(Term::Copy(Space::Private, ty.copy(alloc)?, operand)),
@@ -241,29 +263,53 @@ fn formed(
     }
 }
 
+// An operand, and its type.
+#[derive(Drop)]
+struct Operand<'t> {
+    term: Box<Term>,
+    ty: &'t Ty,
+}
+
+// An operator of this type on two operands.
+fn applied(ty: &Ty, operator: Op, left: Operand, right: Operand) -> Term
+    ensures { term_of result
+        ≡ spec.applied (spec.is_vector (ty_of ty.now)) (spec.is_vector (ty_of left.entry.ty.now))
+        (spec.is_vector (ty_of right.entry.ty.now)) operator (term_of left.entry.term.value)
+        (term_of right.entry.term.value) }
+{
+    if is_vector(ty) {
+        Term::ApplyLanes {
+            operator,
+            left_vector: is_vector(left.ty),
+            right_vector: is_vector(right.ty),
+            left: left.term,
+            right: right.term,
+        }
+    } else {
+        Term::Apply(operator, left.term, right.term)
+    }
+}
+
 // A form of two operands.
 fn joined(
     alloc: Global,
     place: Place,
     form: BinaryForm,
     ty: &Ty,
-    left: Box<Term>,
-    right: Box<Term>,
+    left: Operand,
+    right: Operand,
 ) -> Result<Term, AllocError>
     ensures { IfOk result (λ t. term_of t ≡ spec.lower_binary (place_of place) form
-        (ty_of ty.now) (term_of left.value) (term_of right.value)) }
+        (ty_of ty.now) (ty_of left.entry.ty.now) (ty_of right.entry.ty.now) (term_of left.entry.term.value)
+        (term_of right.entry.term.value)) }
 {
     match form {
         BinaryForm::Operator(operator) => {
-            placed(
-                alloc,
-                place,
-                ty,
-                Term::Apply(operation(operator), left, right),
-            )
+            let term = applied(ty, operation(operator), left, right);
+            placed(alloc, place, ty, term)
         }
-        BinaryForm::Pair => placed(alloc, place, ty, Term::Pair(left, right)),
-        BinaryForm::Zip => Ok(Term::Zip(left, right)),
+        BinaryForm::Pair => placed(alloc, place, ty, Term::Pair(left.term, right.term)),
+        BinaryForm::Zip => Ok(Term::Zip(left.term, right.term)),
         BinaryForm::Reduce(_) => Ok(Term::Literal(0)),
     }
 }
@@ -465,6 +511,14 @@ fn lower_at(alloc: Global, names: &Names, place: Place, node: Annotated) -> Resu
             let below = Place::of_operands(*form);
             let left = boxed(alloc, names, below, Annotated { term: a, types: n })?;
             let right = boxed(alloc, names, below, Annotated { term: b, types: m })?;
+            let left = Operand {
+                term: left,
+                ty: n.own_type(),
+            };
+            let right = Operand {
+                term: right,
+                ty: m.own_type(),
+            };
             joined(alloc, place, *form, ty, left, right)
         }
         (Source::Select(a, b, c), NodeTypes::Three(ty, n, m, k)) => {

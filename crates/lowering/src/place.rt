@@ -20,12 +20,12 @@ pub enum Place {
     Element,
 }
 
-/// Whether the type is a number, or pairs of such.
+/// Whether the type is a number, a vector, or pairs of such.
 pub fn is_element(ty: &Ty) -> bool
     ensures { result ≡ spec.is_element (ty_of ty.now) }
 {
     match ty {
-        Ty::Number => true,
+        Ty::Number | Ty::Vector => true,
         Ty::Pair(a, b) => is_element(a) && is_element(b),
         Ty::Array(_, _) => false,
     }

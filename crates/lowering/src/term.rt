@@ -27,6 +27,8 @@ pub enum Space {
 pub enum LoadSet {
     Skip,
     Take,
+    /// The four scalars of a vector, into one variable.
+    TakeFour,
     /// Of a pair, so of each part.
     Each(Box<LoadSet>, Box<LoadSet>),
 }
@@ -75,6 +77,16 @@ pub enum Term {
     Apply(Op, Box<Term>, Box<Term>),
     /// The quotient or remainder by a number.
     ApplyNumber(Op, u32, Box<Term>),
+    /// The operator lane by lane; an operand that is no vector stands for four equal lanes.
+    ApplyLanes {
+        operator: Op,
+        left_vector: bool,
+        right_vector: bool,
+        left: Box<Term>,
+        right: Box<Term>,
+    },
+    /// The quotient or remainder of each lane by a number.
+    DivideLanes(Op, u32, Box<Term>),
     /// The second where the first isn't 0, else the third.
     Select(Box<Term>, Box<Term>, Box<Term>),
     Pair(Box<Term>, Box<Term>),

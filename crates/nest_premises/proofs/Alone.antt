@@ -12,13 +12,13 @@ use Rattle.lift_tree.specs.Types.{PlainTy, is_element}
 use Rattle.lift_tree.specs.Typing.{Declared}
 use Rattle.lift_tree.specs.Annotations.{Annotation, Leaf, One, Two, Three, type_in, Annotates}
 use Rattle.lift_ir.specs.Lowerable.{IsElementTerm}
-use Rattle.lowered_tree.specs.declared.around.Around.{Around}
+use Rattle.lowered_tree.specs.Around.{Around, laid_out}
 use Rattle.lowered_tree.specs.declared.rule.NestRule.TheVariants.{N2, N3, N5, N8}
 use Rattle.lowered_tree.specs.Elements.{hangs_on_sizes}
 use Rattle.lowered_tree.specs.Forms.{shows_local_map}
 use Rattle.lowered_tree.specs.Kinds.{is_task}
 use Rattle.nest_premises.specs.Unbroken.{AllUnbroken}
-use Rattle.nest_premises.proofs.Rules.{true_is_not_false, clash, forbidden, outside, still_none, not_awaited}
+use Rattle.nest_premises.proofs.Rules.{true_is_not_false, clash, forbidden, outside, still_none, not_awaited, below}
 use Rattle.nest_premises.proofs.Staged.{no_map, no_fold}
 
 pub three : (x y z : Bool) → x ≡ true → y ≡ true → z ≡ true → (x && y && z) ≡ true
@@ -51,7 +51,8 @@ module _ (d : Declared) where
   argument_alone s g (tree.Unary (unary.Rem j) t) (One a n) y h w i q = argument_alone _ g t n y.0 h.1 w i q
   argument_alone s g (tree.Unary unary.First t) (One a n) y h w i q = argument_alone _ g t n y.0 h.1 w i q
   argument_alone s g (tree.Unary unary.Second t) (One a n) y h w i q = argument_alone _ g t n y.0 h.1 w i q
-  argument_alone s g (tree.Unary (unary.Layout l) t) (One a n) y h w i q = argument_alone _ g t n y.0 h.1 w i q
+  argument_alone s g (tree.Unary (unary.Layout l) t) (One a n) y h w i q =
+      argument_alone (laid_out s l a) g t n y.0 h.1 (below (λ z. z.in_argument ≡ true) s l a w w) (below (λ z. z.in_item ≡ false) s l a i i) (below (λ z. z.in_group ≡ false) s l a q q)
   argument_alone s g (tree.Unary (unary.Slide j l) t) (One a n) y h w i q = argument_alone _ g t n y.0 h.1 w i q
   argument_alone s g (tree.Unary (unary.Pad j l) t) (One a n) y h w i q = argument_alone _ g t n y.0 h.1 w i q
   argument_alone s g (tree.Unary unary.ToLocal t) (One a n) y h w i q = forbidden (not s.in_group || s.in_local || s.in_rows) (not (shows_local_map t)) (h.0 N5) (outside s.in_group s.in_local s.in_rows q)
@@ -74,7 +75,8 @@ module _ (d : Declared) where
   body_alone s g (tree.Unary (unary.Rem j) t) (One a n) y h w i e = body_alone _ g t n y.0 h.1 w i refl
   body_alone s g (tree.Unary unary.First t) (One a n) y h w i e = body_alone _ g t n y.0 h.1 w i refl
   body_alone s g (tree.Unary unary.Second t) (One a n) y h w i e = body_alone _ g t n y.0 h.1 w i refl
-  body_alone s g (tree.Unary (unary.Layout l) t) (One a n) y h w i e = body_alone _ g t n y.0 h.1 w i (still_none l s.awaited e)
+  body_alone s g (tree.Unary (unary.Layout l) t) (One a n) y h w i e =
+      body_alone (laid_out s l a) g t n y.0 h.1 (below (λ z. z.in_parallel ≡ true) s l a w w) (below (λ z. z.is_next_to_group ≡ false) s l a i i) (below (λ z. z.awaited ≡ None) s l a (still_none l s.awaited e) refl)
   body_alone s g (tree.Unary (unary.Slide j l) t) (One a n) y h w i e = body_alone _ g t n y.0 h.1 w i refl
   body_alone s g (tree.Unary (unary.Pad j l) t) (One a n) y h w i e = body_alone _ g t n y.0 h.1 w i refl
   body_alone s g (tree.Unary unary.ToLocal t) (One a n) y h w i e = body_alone _ g t n y.0 h.1 w i refl

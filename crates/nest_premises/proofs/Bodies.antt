@@ -23,14 +23,14 @@ use Rattle.lift_ir.specs.Terms as low
 use Rattle.lift_ir.specs.Lowerable.{IsStaged}
 use Rattle.lift_ir.proofs.Lets.{written_let, argument_let, let_parts}
 use Rattle.lift_ir.proofs.Reshaped.{through_layout}
-use Rattle.lowered_tree.specs.declared.around.Around.{Around}
+use Rattle.lowered_tree.specs.Around.{Around, laid_out, passed}
 use Rattle.lowered_tree.specs.declared.rule.NestRule.TheVariants.{N1, N3, N4, N8, N10, N11}
 use Rattle.lowered_tree.specs.Elements.{hangs_on_sizes}
 use Rattle.lowered_tree.specs.Forms.{is_map_of, is_lowered_fold, is_let_of_element}
 use Rattle.lowered_tree.specs.Kinds.{is_sequential, is_over_rows, has_rows}
 use Rattle.nest_premises.specs.Unbroken.{IsUnbrokenAt, AllUnbroken}
 use Rattle.nest_premises.proofs.Known.{Known}
-use Rattle.nest_premises.proofs.Rules.{of_layout, spared, clash, still_none, not_awaited}
+use Rattle.nest_premises.proofs.Rules.{of_layout, spared, clash, still_none, not_awaited, below, is_through, through, numeric_is, operator_is}
 use Rattle.nest_premises.proofs.Staged.{passes, refused}
 use Rattle.nest_premises.proofs.Inputs.{no_private_copy}
 
@@ -86,7 +86,7 @@ module _ (known : Known) (d : Declared) (paired : Bool) (P : Bool → Lowered �
     argument_in_group s g (tree.Input v) (Leaf a) y h o c p = forms.source v
     argument_in_group s g (tree.Unary unary.First t) (One a n) y h o c p = forms.project false _ (argument_in_group _ g t n y.0 h.1 o c p)
     argument_in_group s g (tree.Unary unary.Second t) (One a n) y h o c p = forms.project true _ (argument_in_group _ g t n y.0 h.1 o c p)
-    argument_in_group s g (tree.Unary (unary.Layout l) t) (One a n) y h o c p = through_layout (P false) (λ y u i k. forms.viewed y u k) d.names Argument l a (type_in n) _ (argument_in_group _ g t n y.0 h.1 o c p)
+    argument_in_group s g (tree.Unary (unary.Layout l) t) (One a n) y h o c p = through_layout (P false) (λ y u i k. forms.viewed y u k) d.names Argument l a (type_in n) _ (argument_in_group (laid_out s l a) g t n y.0 h.1 o (below (IsInGroup paired) s l a c c) p)
     argument_in_group s g (tree.Unary (unary.Slide j l) t) (One a n) y h o c p = forms.viewed _ _ (argument_in_group _ g t n y.0 h.1 o c p)
     argument_in_group s g (tree.Unary (unary.Pad j l) t) (One a n) y h o c p = forms.viewed _ _ (argument_in_group _ g t n y.0 h.1 o c p)
     argument_in_group s g (tree.Unary unary.ToLocal t) (One a n) y h o c p = forms.copy _ _ (written_in_group _ g t n y.0 h.1 o.3 c p refl refl)
@@ -100,14 +100,17 @@ module _ (known : Known) (d : Declared) (paired : Bool) (P : Bool → Lowered �
     pub written_in_group : (s : Around) (g : List PlainTy) (t : Tree) (n : Annotation) → Annotates d g t n → AllUnbroken s t n → IsStaged Written t n → IsInGroup paired s → (has_rows t ≡ true → paired ≡ true) → s.is_written ≡ true → s.awaited ≡ None → P true (lower d.names Written t n)
     written_in_group s g (tree.Variable v) (Leaf a) y h o c p w i = refused s.is_written (is_element a) (h N11) w (no_element paired s (tree.Variable v) (Leaf a) c h w)
     written_in_group s g (tree.Number v) (Leaf a) y h o c p w i = barred paired s (tree.Number v) (Leaf a) c h w (ap is_element y.1)
-    written_in_group s g (tree.Unary (unary.Div j) t) (One a n) y h o c p w i = barred paired s (tree.Unary (unary.Div j) t) (One a n) c h.0 w (ap is_element y.1.2)
-    written_in_group s g (tree.Unary (unary.Rem j) t) (One a n) y h o c p w i = barred paired s (tree.Unary (unary.Rem j) t) (One a n) c h.0 w (ap is_element y.1.2)
+    written_in_group s g (tree.Unary (unary.Div j) t) (One a n) y h o c p w i = barred paired s (tree.Unary (unary.Div j) t) (One a n) c h.0 w (ap is_element y.1.2 ∙ numeric_is (type_in n) y.1.1)
+    written_in_group s g (tree.Unary (unary.Rem j) t) (One a n) y h o c p w i = barred paired s (tree.Unary (unary.Rem j) t) (One a n) c h.0 w (ap is_element y.1.2 ∙ numeric_is (type_in n) y.1.1)
     written_in_group s g (tree.Unary unary.First t) (One a n) y h o c p w i = refused s.is_written (is_element a) (h.0 N10) w (no_element paired s (tree.Unary unary.First t) (One a n) c h.0 w)
     written_in_group s g (tree.Unary unary.Second t) (One a n) y h o c p w i = refused s.is_written (is_element a) (h.0 N10) w (no_element paired s (tree.Unary unary.Second t) (One a n) c h.0 w)
-    written_in_group s g (tree.Unary (unary.Layout l) t) (One a n) y h o c p w i = through_layout (P true) (λ y u i k. forms.reshaped y u i k) d.names Written l a (type_in n) _ (written_in_group _ g t n y.0 h.1 o c p (passes s.is_written (is_element a) w (of_layout d.names l _ a y.1)) (still_none l s.awaited i))
+    written_in_group s g (tree.Unary (unary.Layout l) t) (One a n) y h o c p w i =
+        let e = of_layout d.names l (type_in n) a y.1 in
+        let k = through s l t a n (is_through s l t a n h.0 w e) h.1 in
+        through_layout (P true) (λ y u i k. forms.reshaped y u i k) d.names Written l a (type_in n) _ (written_in_group (passed s l a) g t n y.0 k o c p (passes s.is_written (is_element a) w e) (still_none l s.awaited i))
     written_in_group s g (tree.Unary (unary.Slide j l) t) (One a n) y h o c p w i = refused s.is_written (is_element a) (h.0 N10) w (ap is_element y.1.6)
     written_in_group s g (tree.Unary (unary.Pad j l) t) (One a n) y h o c p w i = refused s.is_written (is_element a) (h.0 N10) w (ap is_element y.1.3)
-    written_in_group s g (tree.Binary (binary.Operator r) t u) (Two a n m) y h o c p w i = barred paired s (tree.Binary (binary.Operator r) t u) (Two a n m) c h.0 w (ap is_element y.2.2)
+    written_in_group s g (tree.Binary (binary.Operator r) t u) (Two a n m) y h o c p w i = barred paired s (tree.Binary (binary.Operator r) t u) (Two a n m) c h.0 w (operator_is r (type_in n) (type_in m) a y.2).2
     written_in_group s g (tree.Binary binary.Pair t u) (Two a n m) y h o c p w i =
         barred paired s (tree.Binary binary.Pair t u) (Two a n m) c h.0 w (ap is_element y.2.2 ∙ known.elements (types.PairOf (type_in n) (type_in m)) (y.2.0, y.2.1))
     written_in_group s g (tree.Select t u x) (Three a n m l) y h o c p w i = barred paired s (tree.Select t u x) (Three a n m l) c h.0 w (ap is_element y.6)

@@ -63,6 +63,7 @@ module _ (d : Declared) (bases : List ℕ) (are : AreNames d.names) (ok : Admiss
   -- where the product of the lengths outside is k
   below : (a : PlainTy) (p : List Monomial) (k : ℕ) → value_at bases p ≡ pos k → IsFormed d.names a → ScalarsAreFew d.names p a → AreFew k (ty_at bases a)
   below types.U32 p k e formed h = let b = sound_largest d.names p bases are ok in omega (arith, ints)
+  below types.U32x4 p k e formed h = let b = sound_largest d.names p bases are ok in (omega arith, omega (arith, ints))
   below (types.PairOf a b) p k e formed h = (below a p k e formed.0 h.0, below b p k e formed.1 h.1)
   below (types.ArrayOf a n) p k e formed h =
       let m = natural_length (value_at bases n) (shown_at_least d.names bases are ok 1 n formed.0) in
@@ -72,6 +73,7 @@ module _ (d : Declared) (bases : List ℕ) (are : AreNames d.names) (ok : Admiss
 
   pub few_of : (a : PlainTy) → IsFormed d.names a → HasFewScalars d.names a → Few a
   few_of types.U32 formed h = omega arith
+  few_of types.U32x4 formed h = (omega arith, omega arith)
   few_of (types.PairOf a b) formed h = (few_of a formed.0 h.0, few_of b formed.1 h.1)
   few_of (types.ArrayOf a n) formed h =
       let m = natural_length (value_at bases n) (shown_at_least d.names bases are ok 1 n formed.0) in

@@ -13,13 +13,13 @@ use Rattle.lift_ir.specs.Lowering.{Argument, lower}
 use Rattle.lift_ir.specs.Lowerable.{IsStaged}
 use Rattle.lift_ir.proofs.Lets.{argument_let}
 use Rattle.lift_ir.proofs.Reshaped.{through_layout}
-use Rattle.lowered_tree.specs.declared.around.Around.{Around}
+use Rattle.lowered_tree.specs.Around.{Around, laid_out}
 use Rattle.lowered_tree.specs.declared.rule.NestRule.TheVariants.{N5, N8}
 use Rattle.lowered_tree.specs.Elements.{hangs_on_sizes}
 use Rattle.lowered_tree.specs.Forms.{shows_local_map}
 use Rattle.nest_premises.specs.Unbroken.{AllUnbroken}
 use Rattle.group_form.specs.Forms.{IsOfInputs}
-use Rattle.nest_premises.proofs.Rules.{forbidden}
+use Rattle.nest_premises.proofs.Rules.{forbidden, below}
 
 -- N8: no copy to private memory is outside every work-item's body
 pub no_private_copy : {A : Type 0} (in_item hangs : Bool) → (not in_item || hangs) ≡ false → in_item ≡ false → A
@@ -33,7 +33,7 @@ module _ (d : Declared) where
   of_inputs s g (tree.Input v) (Leaf a) y h o i q = tt
   of_inputs s g (tree.Unary unary.First t) (One a n) y h o i q = of_inputs _ g t n y.0 h.1 o i q
   of_inputs s g (tree.Unary unary.Second t) (One a n) y h o i q = of_inputs _ g t n y.0 h.1 o i q
-  of_inputs s g (tree.Unary (unary.Layout l) t) (One a n) y h o i q = through_layout IsOfInputs (λ y u i k. k) d.names Argument l a (type_in n) _ (of_inputs _ g t n y.0 h.1 o i q)
+  of_inputs s g (tree.Unary (unary.Layout l) t) (One a n) y h o i q = through_layout IsOfInputs (λ y u i k. k) d.names Argument l a (type_in n) _ (of_inputs (laid_out s l a) g t n y.0 h.1 o (below (λ z. z.in_item ≡ false) s l a i i) (below (λ z. (not z.in_group || z.in_local || z.in_rows) ≡ true) s l a q q))
   of_inputs s g (tree.Unary (unary.Slide j l) t) (One a n) y h o i q = of_inputs _ g t n y.0 h.1 o i q
   of_inputs s g (tree.Unary (unary.Pad j l) t) (One a n) y h o i q = of_inputs _ g t n y.0 h.1 o i q
   of_inputs s g (tree.Unary unary.ToLocal t) (One a n) y h o i q = forbidden (not s.in_group || s.in_local || s.in_rows) (not (shows_local_map t)) (h.0 N5) q

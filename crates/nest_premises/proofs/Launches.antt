@@ -1,5 +1,5 @@
--- A term without a broken rule, with a map or a pair of maps over all work-items on top, stands over
--- the launch.
+-- A term without a broken rule, with a map or a pair of maps over all work-items
+-- on top, stands over the launch.
 use Rattle.std.proofs.Common.{◌≡◌, true, false, List, ◌∷◌, refl, sym, subst}
 use Rattle.std.proofs.lemmas.Bool.{or_left, or_right, not_from_false}
 use Rattle.std.specs.Prelude.{not, ◌||◌}
@@ -19,12 +19,13 @@ use Rattle.lift_ir.specs.Lowerable.{IsStaged}
 use Rattle.lift_ir.proofs.Elements.{told_ir}
 use Rattle.lift_ir.proofs.Lets.{written_let, let_parts}
 use Rattle.lift_ir.proofs.Reshaped.{through_layout}
-use Rattle.lowered_tree.specs.declared.around.Around.{Around}
+use Rattle.lowered_tree.specs.Around.{Around, passed}
 use Rattle.lowered_tree.specs.Kind.{nest_kind}
 use Rattle.lowered_tree.specs.Kinds.{same_level, has_rows}
 use Rattle.lowered_tree.specs.declared.kind.NestKind.TheVariants.{OverLaunch}
 use Rattle.nest_premises.specs.Unbroken.{AllUnbroken}
 use Rattle.nest_premises.proofs.Stands.{argument_stands, written_stands}
+use Rattle.nest_premises.proofs.Rules.{through, is_seen, seen}
 use Rattle.nest_premises.proofs.Alone.{argument_alone, body_alone}
 use Rattle.nest_premises.proofs.Pairs.{begins, outer, through_row}
 use Rattle.nest_premises.proofs.Top.{let_of_array}
@@ -46,7 +47,9 @@ module _ (d : Declared) where
   along_row Items s g xs b a n m e y h o q = absurd (cc)
 
   pub over_launch : (s : Around) (g : List PlainTy) (t : Tree) (n : Annotation) → Annotates d g t n → AllUnbroken s t n → IsStaged Written t n → s.in_item ≡ false → s.in_group ≡ false → (has_rows t ≡ true → s.is_paired ≡ true) → nest_kind t ≡ OverLaunch → StandsOverLaunch (lower d.names Written t n)
-  over_launch s g (tree.Unary (unary.Layout l) t) (One a n) y h o i q p e = through_layout StandsOverLaunch (λ y u i k. (i, k)) d.names Written l a (type_in n) _ (over_launch _ g t n y.0 h.1 o i q p e)
+  over_launch s g (tree.Unary (unary.Layout l) t) (One a n) y h o i q p e =
+      let r = is_seen l (nest_kind t) OverLaunch (λ z. absurd (cc)) e in
+      through_layout StandsOverLaunch (λ y u i k. (i, k)) d.names Written l a (type_in n) _ (over_launch (passed s l a) g t n y.0 (through s l t a n r h.1) o i q p (seen l (nest_kind t) OverLaunch e r))
   over_launch s g (tree.Let v b) (Two a n m) y h o i q p e =
       let c = let_of_array d s g v b a n m y.1 h (λ z. absurd (cc)) in
       let r = let_parts v b a n m o (told_ir false (type_in n) c) in
@@ -59,7 +62,7 @@ module _ (d : Declared) where
   over_launch s g (tree.Map (map_kind.Over Launch Y) xs b) (Two a n m) y h o i q p e =
       let r = begins s Launch xs b a n m h.0 (p refl) in (
         argument_stands d _ g xs n y.2 h.1 o.0 (argument_alone d _ g xs n y.2 h.1 (or_right s.in_argument true refl) i q),
-        through_row d Launch IsOutside (λ s v a k. k) StandsAlongRow (λ y u i k. (i, k)) along_row _ (y.0 ∷ g) b m y.4 (outer s Launch b a m r h.2) o.1 (i, q) r,
+        through_row d Launch IsOutside (λ s v a k. k) StandsAlongRow (λ y u i k. (i, k)) along_row _ (y.0 ∷ g) b m y.4 (outer s Launch xs b a m r h.2) o.1 (i, q) r,
       )
   over_launch s g (tree.Map map_kind.Plain xs b) (Two a n m) y h o i q p e = absurd (cc)
   over_launch s g (tree.Map (map_kind.Over Groups X) xs b) (Two a n m) y h o i q p e = absurd (cc)

@@ -9,7 +9,7 @@ use Rattle.lowered_tree.specs.Kinds.{is_task}
 use Rattle.lowered_tree.specs.Copies.{CopiesArrays}
 use Rattle.nest_premises.specs.Legal.{IsLegalTerm}
 use Rattle.lowered_tree.specs.Kind.{nest_kind}
-use Rattle.nest_premises.specs.Laws.{LegalTermsCanBeLowered, UngroupedTermsArePrintable}
+use Rattle.nest_premises.specs.Laws.{LegalTermsCanBeLowered, LegalTermsKeepFours, UngroupedTermsArePrintable}
 use Rattle.lowered_tree.specs.declared.kind.NestKind.{NestKind}
 use Rattle.lowered_tree.specs.declared.kind.NestKind.TheVariants.{Task, OverLaunch, OverGroups, OverGrid}
 use Rattle.group_form.specs.Forms.{StandsOverGroups}
@@ -47,15 +47,15 @@ module _ (known : Known) (d : Declared) (t : Tree) (n : Annotation) (r : IsLegal
 pub legal_nests_stand : Known → LegalNestsStand
 legal_nests_stand known d t n r copies = stand known d t n r copies
 
-pub legal_groups_stand_over_groups : LegalTermsCanBeLowered → LegalNestsStand → LegalGroupsStandOverGroups
-legal_groups_stand_over_groups lowerable nests d t n r copies e =
+pub legal_groups_stand_over_groups : LegalTermsCanBeLowered → LegalTermsKeepFours → LegalNestsStand → LegalGroupsStandOverGroups
+legal_groups_stand_over_groups lowerable fours nests d t n r copies e =
     let stands : StandsOverGroups (lowered_root d.names t n) = subst (λ k. StandsAs k (lowered_root d.names t n)) e (nests d t n r copies) in
-    record { can = lowerable d t n r copies; stands = stands; at_launch = λ local bases l launch. stands }
+    record { can = lowerable d t n r copies; stands = stands; at_launch = λ local bases l launch. stands; fours = fours d t n r copies }
 
-pub legal_grids_stand_over_grids : LegalTermsCanBeLowered → LegalNestsStand → LegalGridsStandOverGrids
-legal_grids_stand_over_grids lowerable nests d t n r copies e =
+pub legal_grids_stand_over_grids : LegalTermsCanBeLowered → LegalTermsKeepFours → LegalNestsStand → LegalGridsStandOverGrids
+legal_grids_stand_over_grids lowerable fours nests d t n r copies e =
     let stands : StandsOverGrid (lowered_root d.names t n) = subst (λ k. StandsAs k (lowered_root d.names t n)) e (nests d t n r copies) in
-    record { can = lowerable d t n r copies; stands = stands; at_launch = λ local bases l launch. stands }
+    record { can = lowerable d t n r copies; stands = stands; at_launch = λ local bases l launch. stands; fours = fours d t n r copies }
 
 pub legal_terms_are_printable : UngroupedTermsArePrintable → LegalGroupsStandOverGroups → LegalGridsStandOverGrids → LegalTermsArePrintable
 legal_terms_are_printable ungrouped grouped over_rows d t n r copies = go (nest_kind t) refl

@@ -19,3 +19,6 @@ pub mod OverGroups
 pub mod OverGrid
 pub mod LegalNests
 pub mod Phases
+pub mod Paired
+pub mod Lies
+pub mod Fours

@@ -5,6 +5,7 @@ use Rattle.std.proofs.lemmas.Nat.{mul-le}
 use Rattle.size_arith.specs.declared.poly.Monomial.{Monomial}
 use Rattle.size_arith.specs.Ranges.{Admissible}
 use Rattle.lift_tree.specs.declared.layout.Layout as layout
+use Rattle.lift_tree.specs.declared.term.Operator.{Operator}
 use Rattle.lift_tree.specs.declared.term.UnaryForm.{UnaryForm}
 use Rattle.lift_tree.specs.declared.term.UnaryForm.TheVariants as unary
 use Rattle.lift_tree.specs.declared.term.BinaryForm.{BinaryForm}
@@ -15,7 +16,7 @@ use Rattle.lift_tree.specs.Tree.{Tree}
 use Rattle.lift_tree.specs.Types as types
 use Rattle.lift_tree.specs.Types.{PlainTy, IsFormed}
 use Rattle.lift_tree.specs.Limits.{ArrayFits, OuterFits, HasFewScalars, LayoutFits, UnaryFits, NodesFit}
-use Rattle.lift_tree.specs.Typing.{Declared, IsDeclared, UnaryRow, BinaryRow}
+use Rattle.lift_tree.specs.Typing.{Declared, IsDeclared, OperatorRow, UnaryRow, BinaryRow}
 use Rattle.lift_tree.specs.Annotations.{Annotation, Leaf, One, Two, Three, type_in, Annotates}
 use Rattle.lift_tree.proofs.EveryAt.{every_at}
 use Rattle.lift_tree.proofs.Formed.{formed_in}
@@ -64,8 +65,8 @@ module _ (d : Declared) (declared : IsDeclared d) (scalars : Every (HasFewScalar
   layout_few l b a (inr r) u h = formed_few a r.element r.length r.is r.formed (r.fits u)
 
   unary_few : (f : UnaryForm) (b a : PlainTy) → UnaryRow d.names f b a → UnaryFits d.names f b → IsFormed d.names a → IsFew b → IsFew a
-  unary_few (unary.Div n) b a r u f h = number a r.2
-  unary_few (unary.Rem n) b a r u f h = number a r.2
+  unary_few (unary.Div n) b a r u f h = subst IsFew (sym r.2) h
+  unary_few (unary.Rem n) b a r u f h = subst IsFew (sym r.2) h
   unary_few unary.First b a r u f h = (subst IsFew r.1 h).0
   unary_few unary.Second b a r u f h = (subst IsFew r.1 h).1
   unary_few (unary.Layout l) b a r u f h = layout_few l b a (layout_cases d.names l b a r) u h
@@ -75,8 +76,15 @@ module _ (d : Declared) (declared : IsDeclared d) (scalars : Every (HasFewScalar
   unary_few unary.ToPrivate b a r u f h = subst IsFew r h
   unary_few unary.Then b a r u f h = subst IsFew r h
 
+  operator_few : (o : Operator) (b c a : PlainTy) → OperatorRow o b c a → IsFew b → IsFew c → IsFew a
+  operator_few o types.U32 types.U32 a r h k = subst IsFew (sym r) h
+  operator_few o types.U32 types.U32x4 a r h k = subst IsFew (sym r.1) k
+  operator_few o types.U32x4 types.U32 a r h k = subst IsFew (sym r.1) h
+  operator_few o types.U32x4 types.U32x4 a r h k = subst IsFew (sym r.1) h
+  operator_few o _ _ a r h k = absurd (assumption)
+
   binary_few : (f : BinaryForm) (b c a : PlainTy) → BinaryRow f b c a → OuterFits d.names a → IsFormed d.names a → IsFew b → IsFew c → IsFew a
-  binary_few (binary.Operator o) b c a r u f h k = number a r.2
+  binary_few (binary.Operator o) b c a r u f h k = operator_few o b c a r h k
   binary_few binary.Pair b c a r u f h k = subst IsFew (sym r.2) (h, k)
   binary_few binary.Zip b c a r u f h k = outer a _ _ r.5 f u
   binary_few (binary.Reduce o) b c a r u f h k = outer a _ _ r.3 f u

@@ -18,7 +18,7 @@ use Rattle.lift_ir.specs.Terms as low
 use Rattle.lift_ir.specs.Lowerable.{IsStaged}
 use Rattle.lift_ir.proofs.Lets.{written_let, let_parts}
 use Rattle.lift_ir.proofs.Reshaped.{through_layout}
-use Rattle.lowered_tree.specs.declared.around.Around.{Around}
+use Rattle.lowered_tree.specs.Around.{Around, passed}
 use Rattle.lowered_tree.specs.declared.rule.NestRule.TheVariants.{N14}
 use Rattle.lowered_tree.specs.Kind.{nest_kind}
 use Rattle.lowered_tree.specs.Kinds.{same_level, has_rows}
@@ -28,7 +28,7 @@ use Rattle.group_form.specs.GridTerms.{StandsAlongRow, StandsInGrid, StandsAlong
 use Rattle.nest_premises.proofs.Known.{Known}
 use Rattle.nest_premises.proofs.Inputs.{of_inputs}
 use Rattle.nest_premises.proofs.Bodies.{Forms, LocalMaps, written_in_group}
-use Rattle.nest_premises.proofs.Rules.{outside, clash, not_awaited}
+use Rattle.nest_premises.proofs.Rules.{outside, clash, not_awaited, through, is_seen, seen}
 use Rattle.nest_premises.proofs.Pairs.{begins, outer, through_row}
 
 in_grids : Forms StandsInGrid
@@ -60,7 +60,7 @@ module _ (known : Known) (d : Declared) where
   local_maps X s g xs b a n m y h o c i p e = clash s.is_paired _ (h.0 N14) c.5 (not_awaited s.awaited (tree.Map (map_kind.Over Items X) xs b) i)
   local_maps Y s g xs b a n m y h o c i p e =
       let r = begins s Items xs b a n m h.0 c.5 in
-      (e, through_row d Items IsInRows (λ s v a k. k) StandsAlongRow (λ y u i k. (i, k)) along_row _ (y.0 ∷ g) b m y.4 (outer s Items b a m r h.2) o.1 (c.2, or_right s.in_rows true refl) r)
+      (e, through_row d Items IsInRows (λ s v a k. k) StandsAlongRow (λ y u i k. (i, k)) along_row _ (y.0 ∷ g) b m y.4 (outer s Items xs b a m r h.2) o.1 (c.2, or_right s.in_rows true refl) r)
 
   along_groups : (k : Level) (s : Around) (g : List PlainTy) (xs b : Tree) (a : PlainTy) (n m : Annotation) → same_level k Groups ≡ true
       → Annotates d g (tree.Map (map_kind.Over k X) xs b) (Two a n m) → AllUnbroken s (tree.Map (map_kind.Over k X) xs b) (Two a n m) → IsStaged Written (tree.Map (map_kind.Over k X) xs b) (Two a n m)
@@ -74,7 +74,9 @@ module _ (known : Known) (d : Declared) where
   along_groups Items s g xs b a n m e y h o q = absurd (cc)
 
   pub over_grid : (s : Around) (g : List PlainTy) (t : Tree) (n : Annotation) → Annotates d g t n → AllUnbroken s t n → IsStaged Written t n → s.in_item ≡ false → s.in_local ≡ false → s.in_group ≡ false → (has_rows t ≡ true → s.is_paired ≡ true) → nest_kind t ≡ OverGrid → StandsOverGrid (lower d.names Written t n)
-  over_grid s g (tree.Unary (unary.Layout w) t) (One a n) y h o i l q p e = through_layout StandsOverGrid (λ y u i k. (i, k)) d.names Written w a (type_in n) _ (over_grid _ g t n y.0 h.1 o i l q p e)
+  over_grid s g (tree.Unary (unary.Layout w) t) (One a n) y h o i l q p e =
+      let r = is_seen w (nest_kind t) OverGrid (λ z. absurd (cc)) e in
+      through_layout StandsOverGrid (λ y u i k. (i, k)) d.names Written w a (type_in n) _ (over_grid (passed s w a) g t n y.0 (through s w t a n r h.1) o i l q p (seen w (nest_kind t) OverGrid e r))
   over_grid s g (tree.Let v b) (Two a n m) y h o i l q p e =
       let j = known.tests (type_in n) ∙ known.lets d g s v b a n m y h (λ z. absurd (cc)) in
       let r = let_parts v b a n m o j in
@@ -82,7 +84,7 @@ module _ (known : Known) (d : Declared) where
   over_grid s g (tree.Map (map_kind.Over Groups Y) xs b) (Two a n m) y h o i l q p e =
       let r = begins s Groups xs b a n m h.0 (p refl) in (
         of_inputs d _ g xs n y.2 h.1 o.0 i (outside s.in_group s.in_local s.in_rows q),
-        through_row d Groups IsOutside (λ s v a k. k) StandsAlongGroups (λ y u i k. (i, k)) along_groups _ (y.0 ∷ g) b m y.4 (outer s Groups b a m r h.2) o.1 (i, l, q, p refl) r,
+        through_row d Groups IsOutside (λ s v a k. k) StandsAlongGroups (λ y u i k. (i, k)) along_groups _ (y.0 ∷ g) b m y.4 (outer s Groups xs b a m r h.2) o.1 (i, l, q, p refl) r,
       )
   over_grid s g (tree.Map map_kind.Plain xs b) (Two a n m) y h o i l q p e = absurd (cc)
   over_grid s g (tree.Map (map_kind.Over Launch k) xs b) (Two a n m) y h o i l q p e = absurd (cc)

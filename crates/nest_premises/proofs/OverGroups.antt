@@ -17,7 +17,7 @@ use Rattle.lift_ir.specs.Terms as low
 use Rattle.lift_ir.specs.Lowerable.{IsStaged}
 use Rattle.lift_ir.proofs.Lets.{written_let, let_parts}
 use Rattle.lift_ir.proofs.Reshaped.{through_layout}
-use Rattle.lowered_tree.specs.declared.around.Around.{Around}
+use Rattle.lowered_tree.specs.Around.{Around, passed}
 use Rattle.lowered_tree.specs.declared.rule.NestRule.TheVariants.{N14}
 use Rattle.lowered_tree.specs.Kind.{nest_kind}
 use Rattle.lowered_tree.specs.Kinds.{is_over_rows, has_rows}
@@ -27,7 +27,7 @@ use Rattle.group_form.specs.Forms.{StandsInGroup, StandsOverGroups}
 use Rattle.nest_premises.proofs.Known.{Known}
 use Rattle.nest_premises.proofs.Inputs.{of_inputs}
 use Rattle.nest_premises.proofs.Bodies.{Forms, LocalMaps, written_in_group}
-use Rattle.nest_premises.proofs.Rules.{outside, still_none, not_awaited, spares}
+use Rattle.nest_premises.proofs.Rules.{outside, still_none, not_awaited, spares, through, is_seen, seen}
 
 in_groups : Forms StandsInGroup
 in_groups = record { bound = λ v. tt; source = λ i. tt; both = λ t u e h. (e, h); project = λ x t e. e; viewed = λ y t e. e; reshaped = λ y t i e. (i, e); bound_to = bind; copy = λ c t e. e }
@@ -43,7 +43,9 @@ module _ (known : Known) (d : Declared) where
   local_maps Y s g xs b a n m y h o c i p e = let no = p refl in absurd (cc)
 
   pub over_groups : (s : Around) (g : List PlainTy) (t : Tree) (n : Annotation) → Annotates d g t n → AllUnbroken s t n → IsStaged Written t n → s.in_item ≡ false → s.in_local ≡ false → s.in_group ≡ false → s.awaited ≡ None → (has_rows t ≡ true → s.is_paired ≡ true) → nest_kind t ≡ OverGroups → StandsOverGroups (lower d.names Written t n)
-  over_groups s g (tree.Unary (unary.Layout w) t) (One a n) y h o i l q c p e = through_layout StandsOverGroups (λ y u i k. (i, k)) d.names Written w a (type_in n) _ (over_groups _ g t n y.0 h.1 o i l q (still_none w s.awaited c) p e)
+  over_groups s g (tree.Unary (unary.Layout w) t) (One a n) y h o i l q c p e =
+      let r = is_seen w (nest_kind t) OverGroups (λ z. absurd (cc)) e in
+      through_layout StandsOverGroups (λ y u i k. (i, k)) d.names Written w a (type_in n) _ (over_groups (passed s w a) g t n y.0 (through s w t a n r h.1) o i l q (still_none w s.awaited c) p (seen w (nest_kind t) OverGroups e r))
   over_groups s g (tree.Let v b) (Two a n m) y h o i l q c p e =
       let j = known.tests (type_in n) ∙ known.lets d g s v b a n m y h (λ z. absurd (cc)) in
       let r = let_parts v b a n m o j in

@@ -1,5 +1,5 @@
--- Maps along dimension 1 where no rule is broken: each begins a pair, whose inner map is seen through
--- layouts.
+-- Maps along dimension 1 where no rule is broken: each begins a pair, whose
+-- inner map is seen through layouts.
 use Rattle.std.proofs.Common.{◌≡◌, Bool, true, false, List, ◌∷◌, refl, subst}
 use Rattle.std.specs.Prelude.{◌&&◌, Some, None, is_none, if◌then◌else◌}
 use Rattle.size_arith.specs.declared.poly.Monomial.{Monomial}
@@ -19,9 +19,8 @@ use Rattle.lift_ir.specs.Lowerable.{IsStaged}
 use Rattle.lift_ir.specs.Lowering.{Lowered, Written, lower}
 use Rattle.lift_ir.specs.Terms.{Reshape}
 use Rattle.lift_ir.proofs.Reshaped.{through_layout}
-use Rattle.lowered_tree.specs.declared.around.Around.{Around}
 use Rattle.lowered_tree.specs.declared.rule.NestRule.TheVariants.{N14}
-use Rattle.lowered_tree.specs.Around.{body_of, outer_body, passed}
+use Rattle.lowered_tree.specs.Around.{Around, body_of, outer_body, passed}
 use Rattle.lowered_tree.specs.Kinds.{same_level}
 use Rattle.lowered_tree.specs.Pairs.{shows_row}
 use Rattle.nest_premises.specs.Unbroken.{IsUnbrokenAt, AllUnbroken}
@@ -36,11 +35,11 @@ begins s l xs b a n m h p = go (shows_row l b) (spared s.is_paired _ (h N14) p)
     go false e = absurd (cc)
 
 -- so its body is that of a pair's outer map
-pub outer : (s : Around) (l : Level) (b : Tree) (a : PlainTy) (m : Annotation) → shows_row l b ≡ true → AllUnbroken (body_of (if shows_row l b then Some l else None) s (Over l Y) a) b m → AllUnbroken (outer_body s l a) b m
-outer s l b a m e h = subst (λ x. AllUnbroken (body_of (if x then Some l else None) s (Over l Y) a) b m) e h
+pub outer : (s : Around) (l : Level) (xs b : Tree) (a : PlainTy) (m : Annotation) → shows_row l b ≡ true → AllUnbroken (body_of (if shows_row l b then Some l else None) s (Over l Y) xs a) b m → AllUnbroken (outer_body s l xs a) b m
+outer s l xs b a m e h = subst (λ x. AllUnbroken (body_of (if x then Some l else None) s (Over l Y) xs a) b m) e h
 
--- What the inner map is lowered to stands somewhere; then so do layouts of it, where layouts keep what
--- is asked of what is around it.
+-- What the inner map is lowered to stands somewhere; then so do layouts of it, where layouts keep
+-- what is asked of what is around it.
 module _ (d : Declared) (l : Level) (Asked : Around → Type 0) (kept : (s : Around) (v : layout.Layout) (a : PlainTy) → Asked s → Asked (passed s v a))
     (P : Lowered → Type 0) (reshaped : (y : Layout (List Monomial)) (t : Lowered) → IsInvertible y → P t → P (Reshape y t))
     (row : (k : Level) (s : Around) (g : List PlainTy) (xs b : Tree) (a : PlainTy) (n m : Annotation) → same_level k l ≡ true
@@ -56,6 +55,8 @@ module _ (d : Declared) (l : Level) (Asked : Around → Type 0) (kept : (s : Aro
   through_row s g (tree.Map Sequential xs b) (Two a n m) y h o q e = absurd (cc)
   through_row s g (tree.Unary (unary.Layout laid.Reverse) t) (One a n) y h o q e = absurd (cc)
   through_row s g (tree.Unary (unary.Layout (laid.Stride fs)) t) (One a n) y h o q e = absurd (cc)
+  through_row s g (tree.Unary (unary.Layout laid.AsVector) t) (One a n) y h o q e = absurd (cc)
+  through_row s g (tree.Unary (unary.Layout laid.AsScalar) t) (One a n) y h o q e = absurd (cc)
   through_row s g (tree.Unary f t) (One a n) y h o q e = absurd (cc)
   through_row s g (tree.Variable v) (Leaf a) y h o q e = absurd (cc)
   through_row s g (tree.Number v) (Leaf a) y h o q e = absurd (cc)

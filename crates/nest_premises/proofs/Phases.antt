@@ -1,6 +1,8 @@
 -- A term has no more phases than nodes.
 use Rattle.std.proofs.Common.{◌+◌, ◌≤◌, ℕ, Bool, true, false, List, arith}
 use Rattle.std.specs.Prelude.{if◌then◌else◌}
+use Rattle.scalar_ops.specs.declared.op.Op.{Op}
+use Rattle.scalar_ops.specs.declared.op.Op.TheVariants.{Div, Rem}
 use Rattle.size_arith.specs.declared.names.Name.{Name}
 use Rattle.size_arith.specs.declared.poly.Monomial.{Monomial}
 use Rattle.lift_tree.specs.declared.term.MapKind.{MapKind}
@@ -11,10 +13,11 @@ use Rattle.lift_tree.specs.declared.term.BinaryForm.TheVariants as binary
 use Rattle.lift_tree.specs.Tree as tree
 use Rattle.lift_tree.specs.Tree.{Tree, nodes}
 use Rattle.lift_tree.specs.Types.{PlainTy}
+use Rattle.lift_tree.specs.Meaning.{scalar_op}
 use Rattle.lift_tree.specs.Annotations.{Annotation, One, Two, Three, type_in}
 use Rattle.lift_ir.specs.Layouts.{Layout}
 use Rattle.lift_ir.specs.Terms.{Both, Reshape, LetArray, LetElement, Map, Store, Bound, Literal, Source, Select}
-use Rattle.lift_ir.specs.Lowering.{Place, Written, Argument, Element, Lowered, is_element, element_ty, placed, placed_element, lower, lower_unary, lower_binary, lower_let, operand_place, binary_place, value_place, body_place}
+use Rattle.lift_ir.specs.Lowering.{Place, Written, Argument, Element, Lowered, is_element, is_vector, element_ty, placed, divided, applied, placed_element, lower, lower_unary, lower_binary, lower_let, operand_place, binary_place, value_place, body_place}
 use Rattle.lift_ir.proofs.Reshaped.{through_layout}
 use Rattle.group_form.specs.Uses.{phases_in, phase_count}
 use Rattle.group_form.specs.GridTheorem.{phases_along, grid_phase_count}
@@ -26,9 +29,17 @@ placed_in Written a x = omega arith
 placed_in Argument a x = omega arith
 placed_in Element a x = omega arith
 
+divided_in : (v : Bool) (o : Op) (k : ℕ) (x : Lowered) → phases_in (divided v o k x) ≤ 0
+divided_in false o k x = omega arith
+divided_in true o k x = omega arith
+
+applied_in : (v l r : Bool) (o : Op) (x y : Lowered) → phases_in (applied v l r o x y) ≤ 0
+applied_in false l r o x y = omega arith
+applied_in true l r o x y = omega arith
+
 unary_in : (names : List Name) (p : Place) (f : UnaryForm) (a b : PlainTy) (x : Lowered) → phases_in (lower_unary names p f a b x) ≤ phases_in x
-unary_in names p (unary.Div k) a b x = let e = placed_in p a (lower_unary names Element (unary.Div k) a b x) in omega arith
-unary_in names p (unary.Rem k) a b x = let e = placed_in p a (lower_unary names Element (unary.Rem k) a b x) in omega arith
+unary_in names p (unary.Div k) a b x = let e = placed_in p a (divided (is_vector a) Div k x) in let r = divided_in (is_vector a) Div k x in omega arith
+unary_in names p (unary.Rem k) a b x = let e = placed_in p a (divided (is_vector a) Rem k x) in let r = divided_in (is_vector a) Rem k x in omega arith
 unary_in names p unary.First a b x = placed_in p a (lower_unary names Element unary.First a b x)
 unary_in names p unary.Second a b x = placed_in p a (lower_unary names Element unary.Second a b x)
 unary_in names p unary.ToPrivate a b x = omega arith
@@ -38,11 +49,14 @@ unary_in names p (unary.Layout l) a b x = through_layout (λ u. phases_in u ≤ 
 unary_in names p (unary.Slide s k) a b x = omega arith
 unary_in names p (unary.Pad s k) a b x = omega arith
 
-binary_in : (p : Place) (f : BinaryForm) (a : PlainTy) (x y : Lowered) → phases_in (lower_binary p f a x y) ≤ phases_in x + phases_in y
-binary_in p (binary.Operator o) a x y = let e = placed_in p a (lower_binary Element (binary.Operator o) a x y) in omega arith
-binary_in p binary.Pair a x y = placed_in p a (Both false x y)
-binary_in p binary.Zip a x y = omega arith
-binary_in p (binary.Reduce o) a x y = omega arith
+binary_in : (p : Place) (f : BinaryForm) (a b c : PlainTy) (x y : Lowered) → phases_in (lower_binary p f a b c x y) ≤ phases_in x + phases_in y
+binary_in p (binary.Operator o) a b c x y =
+    let e = placed_in p a (applied (is_vector a) (is_vector b) (is_vector c) (scalar_op o) x y) in
+    let r = applied_in (is_vector a) (is_vector b) (is_vector c) (scalar_op o) x y in
+    omega arith
+binary_in p binary.Pair a b c x y = placed_in p a (Both false x y)
+binary_in p binary.Zip a b c x y = omega arith
+binary_in p (binary.Reduce o) a b c x y = omega arith
 
 let_in : (p : Place) (a c : PlainTy) (v b : Lowered) → phases_in (placed_element p a (lower_let c v b)) ≤ phases_in v + phases_in b
 let_in p a c v b = go (is_element a) (is_element c)
@@ -59,7 +73,7 @@ few_in names p (tree.Number c) n = let e = placed_in p (type_in n) (Literal c) i
 few_in names p (tree.Input i) n = omega arith
 few_in names p (tree.Unary f t) (One a n) = let e = unary_in names p f a (type_in n) (lower names (operand_place f p) t n) in let r = few_in names (operand_place f p) t n in omega arith
 few_in names p (tree.Binary f t u) (Two a n m) =
-    let e = binary_in p f a (lower names (binary_place f) t n) (lower names (binary_place f) u m) in
+    let e = binary_in p f a (type_in n) (type_in m) (lower names (binary_place f) t n) (lower names (binary_place f) u m) in
     let r = few_in names (binary_place f) t n in
     let s = few_in names (binary_place f) u m in
     omega arith
@@ -82,8 +96,16 @@ IsBare (LetArray v b) = ⊥
 IsBare (Map k n loads xs b) = ⊥
 IsBare _ = Unit {0}
 
--- What counts phases on the way down to a map: through layouts and lets, where it has no more of a map
--- than the map has nodes.
+bare_divided : (v : Bool) (o : Op) (k : ℕ) (x : Lowered) → IsBare (divided v o k x)
+bare_divided false o k x = tt
+bare_divided true o k x = tt
+
+bare_applied : (v l r : Bool) (o : Op) (x y : Lowered) → IsBare (applied v l r o x y)
+bare_applied false l r o x y = tt
+bare_applied true l r o x y = tt
+
+-- What counts phases on the way down to a map: through layouts and lets, where it has no more of a
+-- map than the map has nodes.
 module _ (count : Lowered → ℕ) (bare : (x : Lowered) → IsBare x → count x ≤ 0) (reshaped : (y : Layout (List Monomial)) (x : Lowered) → count (Reshape y x) ≤ count x)
     (bound : (v b : Lowered) → count (LetArray v b) ≤ count b)
     (map : (names : List Name) (j : MapKind) (xs b : Tree) (a : PlainTy) (n m : Annotation) → count (lower names Written (tree.Map j xs b) (Two a n m)) ≤ nodes (tree.Map j xs b)) where
@@ -98,8 +120,8 @@ module _ (count : Lowered → ℕ) (bare : (x : Lowered) → IsBare x → count 
   placed_of Element a x = omega arith
 
   unary_of : (names : List Name) (p : Place) (f : UnaryForm) (a b : PlainTy) (x : Lowered) → count (lower_unary names p f a b x) ≤ count x
-  unary_of names p (unary.Div k) a b x = let e = element_of p a (lower_unary names Element (unary.Div k) a b x) tt in omega arith
-  unary_of names p (unary.Rem k) a b x = let e = element_of p a (lower_unary names Element (unary.Rem k) a b x) tt in omega arith
+  unary_of names p (unary.Div k) a b x = let e = element_of p a (divided (is_vector a) Div k x) (bare_divided (is_vector a) Div k x) in omega arith
+  unary_of names p (unary.Rem k) a b x = let e = element_of p a (divided (is_vector a) Rem k x) (bare_divided (is_vector a) Rem k x) in omega arith
   unary_of names p unary.First a b x = let e = element_of p a (lower_unary names Element unary.First a b x) tt in omega arith
   unary_of names p unary.Second a b x = let e = element_of p a (lower_unary names Element unary.Second a b x) tt in omega arith
   unary_of names p unary.ToPrivate a b x = let e = bare (lower_unary names p unary.ToPrivate a b x) tt in omega arith
@@ -109,11 +131,11 @@ module _ (count : Lowered → ℕ) (bare : (x : Lowered) → IsBare x → count 
   unary_of names p (unary.Slide s k) a b x = reshaped _ x
   unary_of names p (unary.Pad s k) a b x = reshaped _ x
 
-  binary_of : (p : Place) (f : BinaryForm) (a : PlainTy) (x y : Lowered) → count (lower_binary p f a x y) ≤ 0
-  binary_of p (binary.Operator o) a x y = element_of p a (lower_binary Element (binary.Operator o) a x y) tt
-  binary_of p binary.Pair a x y = element_of p a (Both false x y) tt
-  binary_of p binary.Zip a x y = bare (Both true x y) tt
-  binary_of p (binary.Reduce o) a x y = bare (Literal 0) tt
+  binary_of : (p : Place) (f : BinaryForm) (a b c : PlainTy) (x y : Lowered) → count (lower_binary p f a b c x y) ≤ 0
+  binary_of p (binary.Operator o) a b c x y = element_of p a (applied (is_vector a) (is_vector b) (is_vector c) (scalar_op o) x y) (bare_applied (is_vector a) (is_vector b) (is_vector c) (scalar_op o) x y)
+  binary_of p binary.Pair a b c x y = element_of p a (Both false x y) tt
+  binary_of p binary.Zip a b c x y = bare (Both true x y) tt
+  binary_of p (binary.Reduce o) a b c x y = bare (Literal 0) tt
 
   let_of : (p : Place) (a c : PlainTy) (v b : Lowered) → count (placed_element p a (lower_let c v b)) ≤ count b
   let_of p a c v b = go (is_element a) (is_element c)
@@ -129,7 +151,7 @@ module _ (count : Lowered → ℕ) (bare : (x : Lowered) → IsBare x → count 
   few_of names p (tree.Number c) n = let e = element_of p (type_in n) (Literal c) tt in omega arith
   few_of names p (tree.Input i) n = let e = bare (Source i) tt in omega arith
   few_of names p (tree.Unary f t) (One a n) = let e = unary_of names p f a (type_in n) (lower names (operand_place f p) t n) in let r = few_of names (operand_place f p) t n in omega arith
-  few_of names p (tree.Binary f t u) (Two a n m) = let e = binary_of p f a (lower names (binary_place f) t n) (lower names (binary_place f) u m) in omega arith
+  few_of names p (tree.Binary f t u) (Two a n m) = let e = binary_of p f a (type_in n) (type_in m) (lower names (binary_place f) t n) (lower names (binary_place f) u m) in omega arith
   few_of names p (tree.Select t u w) (Three a n m k) = let e = element_of p a (Select (lower names Element t n) (lower names Element u m) (lower names Element w k)) tt in omega arith
   few_of names p (tree.Let v b) (Two a n m) =
       let e = let_of p a (type_in n) (lower names (value_place n) v n) (lower names (body_place p a) b m) in

@@ -19,13 +19,13 @@ use Rattle.lift_ir.specs.Owner.{is_in_rows}
 use Rattle.lift_ir.proofs.Elements.{told_ir}
 use Rattle.lift_ir.proofs.Lets.{written_let, let_parts}
 use Rattle.lift_ir.proofs.Reshaped.{through_layout}
-use Rattle.lowered_tree.specs.declared.around.Around.{Around}
+use Rattle.lowered_tree.specs.Around.{Around, passed}
 use Rattle.lowered_tree.specs.declared.rule.NestRule.TheVariants.{N14}
 use Rattle.lowered_tree.specs.Kinds.{is_task, has_rows}
 use Rattle.nest_premises.specs.Unbroken.{AllUnbroken}
-use Rattle.nest_premises.proofs.Rules.{clash, still_none, not_awaited}
+use Rattle.nest_premises.proofs.Rules.{clash, still_none, not_awaited, through}
 use Rattle.nest_premises.proofs.Stands.{body_staged, by_lets}
-use Rattle.nest_premises.proofs.Top.{IsSpread, let_of_array}
+use Rattle.nest_premises.proofs.Top.{IsSpread, spread_through, let_of_array}
 
 -- in a term without parallel maps there is none
 pub task_no_rows : (t : Tree) → is_task t ≡ true → has_rows t ≡ false
@@ -78,7 +78,9 @@ module _ (d : Declared) where
 
   -- N14: where the parallel maps are pairs and one is on top, one along dimension 1 is
   pub one_on_top : (s : Around) (g : List PlainTy) (t : Tree) (n : Annotation) → Annotates d g t n → AllUnbroken s t n → IsStaged Written t n → s.is_paired ≡ true → s.awaited ≡ None → IsSpread t → is_in_rows (lower d.names Written t n) ≡ true
-  one_on_top s g (tree.Unary (unary.Layout l) t) (One a n) y h o p c e = through_layout (λ u. is_in_rows u ≡ true) (λ y u i k. k) d.names Written l a (type_in n) _ (one_on_top _ g t n y.0 h.1 o p (still_none l s.awaited c) e)
+  one_on_top s g (tree.Unary (unary.Layout l) t) (One a n) y h o p c e =
+      let r = spread_through l t e in
+      through_layout (λ u. is_in_rows u ≡ true) (λ y u i k. k) d.names Written l a (type_in n) _ (one_on_top (passed s l a) g t n y.0 (through s l t a n r.0 h.1) o p (still_none l s.awaited c) r.1)
   one_on_top s g (tree.Let v b) (Two a n m) y h o p c e =
       let i = told_ir false (type_in n) (let_of_array d s g v b a n m y.1 h e) in
       let r = let_parts v b a n m o i in

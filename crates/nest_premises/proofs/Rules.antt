@@ -1,9 +1,11 @@
 -- Rules of the nest, at each node of a term.
 use Rattle.std.proofs.Common.{◌≡◌, ℕ, Bool, true, false, List, [], ◌∷◌, ◌++◌, refl, sym, subst}
-use Rattle.std.specs.Prelude.{◌&&◌, ◌||◌, not, Option, Some, None}
+use Rattle.std.specs.Prelude.{◌&&◌, ◌||◌, not, Option, Some, None, if◌then◌else◌}
 use Rattle.size_arith.specs.declared.names.Name.{Name}
 use Rattle.lift_tree.specs.declared.layout.Layout as layout
 use Rattle.lift_tree.specs.declared.layout.Layout.TheVariants as laid
+use Rattle.lift_tree.specs.declared.term.UnaryForm.TheVariants as unary
+use Rattle.lift_tree.specs.declared.term.Operator.{Operator}
 use Rattle.lift_tree.specs.declared.term.Level.{Level}
 use Rattle.lift_tree.specs.declared.term.MapKind.{MapKind}
 use Rattle.lift_tree.specs.Tree as tree
@@ -11,15 +13,18 @@ use Rattle.lift_tree.specs.Tree.{Tree}
 use Rattle.lift_tree.specs.Types as types
 use Rattle.lift_tree.specs.Types.{PlainTy, is_array, is_element}
 use Rattle.lift_tree.specs.Lists.{Every}
-use Rattle.lift_tree.specs.Typing.{LayoutRow}
+use Rattle.lift_tree.specs.Typing.{LayoutRow, IsNumeric, OperatorRow}
 use Rattle.lift_tree.specs.Annotations.{Annotation, Leaf, One, Two, Three}
 use Rattle.lift_tree.proofs.Layouts.{layout_operand, layout_result}
 use Rattle.lift_ir.specs.Lowerable.{HoldsNoScalar}
-use Rattle.lowered_tree.specs.declared.around.Around.{Around}
-use Rattle.lowered_tree.specs.Around.{awaited_through, body_of, map_body}
+use Rattle.lowered_tree.specs.declared.kind.NestKind.{NestKind}
+use Rattle.lowered_tree.specs.declared.kind.NestKind.TheVariants.{Task}
+use Rattle.lowered_tree.specs.declared.rule.NestRule.TheVariants.{N10}
+use Rattle.lowered_tree.specs.Forms.{is_written_through}
+use Rattle.lowered_tree.specs.Around.{Around, awaited_through, body_of, map_body, operand, passed, laid_out}
 use Rattle.lowered_tree.specs.Pairs.{pair_begun, is_awaited}
 use Rattle.lowered_tree.specs.Nest.{Site, sites, under, in_child, IsUnbroken}
-use Rattle.nest_premises.specs.Unbroken.{AllUnbroken}
+use Rattle.nest_premises.specs.Unbroken.{IsUnbrokenAt, AllUnbroken}
 
 -- ---- Booleans
 
@@ -57,10 +62,10 @@ outside false l r e = refl
 -- ---- what is around a node
 
 -- a map's body is in writing position
-pub body_written : (s : Around) (k : MapKind) (b : Tree) (a : PlainTy) → (map_body s k b a).is_written ≡ true
-body_written s k b a = go (pair_begun k b)
+pub body_written : (s : Around) (k : MapKind) (xs b : Tree) (a : PlainTy) → (map_body s k xs b a).is_written ≡ true
+body_written s k xs b a = go (pair_begun k b)
   where
-    go : (due : Option Level) → (body_of due s k a).is_written ≡ true
+    go : (due : Option Level) → (body_of due s k xs a).is_written ≡ true
     go None = refl
     go (Some l) = refl
 
@@ -71,23 +76,72 @@ still_none laid.Transpose due e = e
 still_none (laid.Split m) due e = e
 still_none laid.Reverse due e = refl
 still_none (laid.Stride m) due e = refl
+still_none laid.AsVector due e = refl
+still_none laid.AsScalar due e = refl
 
 -- and no node is it
 pub not_awaited : (due : Option Level) (t : Tree) → due ≡ None → not (is_awaited due t) ≡ true
 not_awaited (Some l) t e = absurd (cc)
 not_awaited None t e = refl
 
+-- below a layout is what is below one that is written through, or below any other form
+pub below : (Q : Around → Type 0) (s : Around) (l : layout.Layout) (a : PlainTy) → Q (passed s l a) → Q (operand s a) → Q (laid_out s l a)
+below Q s l a h k = go (is_written_through l)
+  where
+    go : (x : Bool) → Q (if x then passed s l a else operand s a)
+    go true = h
+    go false = k
+
+-- N10: in writing position a layout is one that is written through
+pub is_through : (s : Around) (l : layout.Layout) (t : Tree) (a : PlainTy) (n : Annotation) → IsUnbrokenAt s (tree.Unary (unary.Layout l) t) (One a n) → s.is_written ≡ true → is_element a ≡ false → is_written_through l ≡ true
+is_through s l t a n h w e = go s.is_written (is_element a) (is_written_through l) (h N10) w e
+  where
+    go : (x y z : Bool) → (x && not y && not z) ≡ false → x ≡ true → y ≡ false → z ≡ true
+    go true true z h w e = absurd (cc)
+    go true false true h w e = refl
+    go true false false h w e = absurd (cc)
+    go false y z h w e = absurd (cc)
+
+pub through : (s : Around) (l : layout.Layout) (t : Tree) (a : PlainTy) (n : Annotation) → is_written_through l ≡ true → AllUnbroken (laid_out s l a) t n → AllUnbroken (passed s l a) t n
+through s l t a n e h = subst (λ x. AllUnbroken (if x then passed s l a else operand s a) t n) e h
+
+-- where a parallel map shows through a layout
+pub is_seen : (l : layout.Layout) (k r : NestKind) → (r ≡ Task → ⊥) → (if is_written_through l then k else Task) ≡ r → is_written_through l ≡ true
+is_seen l k r other e = go (is_written_through l) e
+  where
+    go : (x : Bool) → (if x then k else Task) ≡ r → x ≡ true
+    go true e = refl
+    go false e = absurd (other (sym e))
+
+pub seen : (l : layout.Layout) (k r : NestKind) → (if is_written_through l then k else Task) ≡ r → is_written_through l ≡ true → k ≡ r
+seen l k r e i = subst (λ x. (if x then k else Task) ≡ r) i e
+
 -- ---- types
 
 pub no_array : (a : PlainTy) → is_element a ≡ true → is_array a ≡ false
 no_array types.U32 e = refl
+no_array types.U32x4 e = refl
 no_array (types.PairOf a b) e = refl
 no_array (types.ArrayOf a n) e = absurd (cc)
 
 pub holds_none : (a : PlainTy) → is_array a ≡ true → HoldsNoScalar a
 holds_none types.U32 e = absurd (cc)
+holds_none types.U32x4 e = absurd (cc)
 holds_none (types.PairOf a b) e = absurd (cc)
 holds_none (types.ArrayOf a n) e = tt
+
+-- numbers and vectors are elements, and so is what an operator is of
+pub numeric_is : (a : PlainTy) → IsNumeric a → is_element a ≡ true
+numeric_is types.U32 h = refl
+numeric_is types.U32x4 h = refl
+numeric_is _ h = absurd (assumption)
+
+pub operator_is : (o : Operator) (b c a : PlainTy) → OperatorRow o b c a → (is_element b ≡ true) × (is_element c ≡ true) × (is_element a ≡ true)
+operator_is o types.U32 types.U32 a r = (refl, refl, subst (λ z. is_element z ≡ true) (sym r) refl)
+operator_is o types.U32 types.U32x4 a r = (refl, refl, subst (λ z. is_element z ≡ true) (sym r.1) refl)
+operator_is o types.U32x4 types.U32 a r = (refl, refl, subst (λ z. is_element z ≡ true) (sym r.1) refl)
+operator_is o types.U32x4 types.U32x4 a r = (refl, refl, subst (λ z. is_element z ≡ true) (sym r.1) refl)
+operator_is o _ _ a r = absurd (assumption)
 
 -- of a node's type, told by an equation
 module _ {A : Type 0} (a b : PlainTy) (e : a ≡ b) where

@@ -24,21 +24,21 @@ use Rattle.lift_ir.specs.AtLaunch.{natural, length_at, ty_at}
 use Rattle.lift_ir.specs.Lowering.{Written, Argument}
 use Rattle.lift_ir.specs.Lowerable.{IsElementTerm, HoldsNoScalar, IsStaged}
 use Rattle.lift_ir.proofs.Elements.{left_part, right_part, told_element, told_ir}
-use Rattle.lowered_tree.specs.declared.around.Around.{Around}
 use Rattle.lowered_tree.specs.declared.rule.NestRule.TheVariants.{N1, N6, N7, N8, N10, N11, N13}
-use Rattle.lowered_tree.specs.Around.{under_form}
+use Rattle.lowered_tree.specs.Around.{Around, laid_out, passed, under_form}
 use Rattle.lowered_tree.specs.Elements.{names_a_size, is_over_sizes, hangs_on_sizes}
 use Rattle.lowered_tree.specs.Kinds.{is_plain}
 use Rattle.lowered_tree.specs.Copies.{CopiesArrays}
 use Rattle.nest_premises.specs.Unbroken.{IsUnbrokenAt, AllUnbroken}
 use Rattle.nest_premises.proofs.Fits.{Fits}
-use Rattle.nest_premises.proofs.Rules.{spared, true_is_not_false, no_array, holds_none, clash_array, clash_element, moved, under_layout, body_written}
+use Rattle.nest_premises.proofs.Rules.{spared, true_is_not_false, no_array, holds_none, clash_array, clash_element, moved, under_layout, body_written, below, is_through, through, numeric_is, operator_is}
 
 -- a program's inputs are arrays
 input_is_array : (inputs : List PlainTy) (i : ℕ) (a : PlainTy) → Every IsInput inputs → slice_get inputs i ≡ Some a → is_array a ≡ true
 input_is_array [] i a h e = absurd (cc)
 input_is_array (types.ArrayOf b n ∷ inputs) zero a h e = let c : types.ArrayOf b n ≡ a = cc in subst (λ z. is_array z ≡ true) c refl
 input_is_array (types.U32 ∷ inputs) zero a h e = absurd h.0
+input_is_array (types.U32x4 ∷ inputs) zero a h e = absurd h.0
 input_is_array (types.PairOf b c ∷ inputs) zero a h e = absurd h.0
 input_is_array (b ∷ inputs) (suc i) a h e = input_is_array inputs i a h.1 e
 
@@ -56,8 +56,8 @@ module _ (d : Declared) (inputs : Every IsInput d.inputs) where
   counted s g (tree.Variable v) (Leaf a) y h k c w = tt
   counted s g (tree.Number v) (Leaf a) y h k c w = tt
   counted s g (tree.Input i) (Leaf a) y h k c w = true_is_not_false (is_array a) (input_is_array d.inputs i a inputs y) w
-  counted s g (tree.Unary (unary.Div j) t) (One a n) y h k c w = counted (under_form s (unary.Div j) a) g t n y.0 h.1 k.1 (or_left (s.in_element || is_element a) (is_element (type_in n)) c) (moved is_array false (type_in n) types.U32 y.1.1 refl)
-  counted s g (tree.Unary (unary.Rem j) t) (One a n) y h k c w = counted (under_form s (unary.Rem j) a) g t n y.0 h.1 k.1 (or_left (s.in_element || is_element a) (is_element (type_in n)) c) (moved is_array false (type_in n) types.U32 y.1.1 refl)
+  counted s g (tree.Unary (unary.Div j) t) (One a n) y h k c w = counted (under_form s (unary.Div j) a) g t n y.0 h.1 k.1 (or_left (s.in_element || is_element a) (is_element (type_in n)) c) (no_array (type_in n) (numeric_is (type_in n) y.1.1))
+  counted s g (tree.Unary (unary.Rem j) t) (One a n) y h k c w = counted (under_form s (unary.Rem j) a) g t n y.0 h.1 k.1 (or_left (s.in_element || is_element a) (is_element (type_in n)) c) (no_array (type_in n) (numeric_is (type_in n) y.1.1))
   counted s g (tree.Unary unary.First t) (One a n) y h k c w = counted (under_form s unary.First a) g t n y.0 h.1 k.1 (or_left (s.in_element || is_element a) (is_element (type_in n)) c) (moved is_array false (type_in n) (types.PairOf a y.1.0) y.1.1 refl)
   counted s g (tree.Unary unary.Second t) (One a n) y h k c w = counted (under_form s unary.Second a) g t n y.0 h.1 k.1 (or_left (s.in_element || is_element a) (is_element (type_in n)) c) (moved is_array false (type_in n) (types.PairOf y.1.0 a) y.1.1 refl)
   counted s g (tree.Unary (unary.Layout l) t) (One a n) y h k c w = clash_array a _ (layout_result d.names l _ a y.1).is refl w
@@ -67,8 +67,8 @@ module _ (d : Declared) (inputs : Every IsInput d.inputs) where
   counted s g (tree.Unary unary.ToPrivate t) (One a n) y h k c w = true_is_not_false (is_array a) k.0 w
   counted s g (tree.Unary unary.Then t) (One a n) y h k c w = absurd (true_is_not_false true refl (h.0 N13))
   counted s g (tree.Binary (binary.Operator o) t u) (Two a n m) y h k c w = (
-    counted _ g t n y.0 h.1 k.0 (or_left (s.in_element || is_element a) (is_element (type_in n)) c) (moved is_array false (type_in n) types.U32 y.2.0 refl),
-    counted _ g u m y.1 h.2 k.1 (or_left (s.in_element || is_element a) (is_element (type_in m)) c) (moved is_array false (type_in m) types.U32 y.2.1 refl),
+    counted _ g t n y.0 h.1 k.0 (or_left (s.in_element || is_element a) (is_element (type_in n)) c) (no_array (type_in n) (operator_is o (type_in n) (type_in m) a y.2).0),
+    counted _ g u m y.1 h.2 k.1 (or_left (s.in_element || is_element a) (is_element (type_in m)) c) (no_array (type_in m) (operator_is o (type_in n) (type_in m) a y.2).1),
   )
   counted s g (tree.Binary binary.Pair t u) (Two a n m) y h k c w = (
     counted _ g t n y.0 h.1 k.0 (or_left (s.in_element || is_element a) (is_element (type_in n)) c) (no_array (type_in n) (told_element (type_in n) y.2.0)),
@@ -126,6 +126,7 @@ value_of_none ys (m ∷ n) e =
 
 pub same_literal : (ys : List ℕ) (a : PlainTy) → hangs_on_sizes a ≡ false → ty_at ys a ≡ ty_at [] a
 same_literal ys types.U32 e = refl
+same_literal ys types.U32x4 e = refl
 same_literal ys (types.PairOf a b) e =
     ap (λ z. PairOf z (ty_at ys b)) (same_literal ys a (or_parts (hangs_on_sizes a) (hangs_on_sizes b) e).0) ∙ ap (PairOf (ty_at [] a)) (same_literal ys b (or_parts (hangs_on_sizes a) (hangs_on_sizes b) e).1)
 same_literal ys (types.ArrayOf a n) e =
@@ -160,17 +161,17 @@ module _ (d : Declared) (inputs : Every IsInput d.inputs) (ys : List ℕ) where
     argued s g (tree.Variable v) (Leaf a) y h k f w e = tt
     argued s g (tree.Number v) (Leaf a) y h k f w e = clash_element a types.U32 y.1 refl e
     argued s g (tree.Input i) (Leaf a) y h k f w e = holds_none a (input_is_array d.inputs i a inputs y)
-    argued s g (tree.Unary (unary.Div j) t) (One a n) y h k f w e = clash_element a types.U32 y.1.2 refl e
-    argued s g (tree.Unary (unary.Rem j) t) (One a n) y h k f w e = clash_element a types.U32 y.1.2 refl e
+    argued s g (tree.Unary (unary.Div j) t) (One a n) y h k f w e = clash_element a (type_in n) y.1.2 (numeric_is (type_in n) y.1.1) e
+    argued s g (tree.Unary (unary.Rem j) t) (One a n) y h k f w e = clash_element a (type_in n) y.1.2 (numeric_is (type_in n) y.1.1) e
     argued s g (tree.Unary unary.First t) (One a n) y h k f w e = argued _ g t n y.0 h.1 k.1 f.2 w (moved is_element false (type_in n) (types.PairOf a y.1.0) y.1.1 (left_part a y.1.0 e))
     argued s g (tree.Unary unary.Second t) (One a n) y h k f w e = argued _ g t n y.0 h.1 k.1 f.2 w (moved is_element false (type_in n) (types.PairOf y.1.0 a) y.1.1 (right_part y.1.0 a e))
-    argued s g (tree.Unary (unary.Layout l) t) (One a n) y h k f w e = argued _ g t n y.0 h.1 k.1 f.2 w (under_layout d.names l (type_in n) a y.1)
+    argued s g (tree.Unary (unary.Layout l) t) (One a n) y h k f w e = argued (laid_out s l a) g t n y.0 h.1 k.1 f.2 (below (λ z. z.in_argument ≡ true) s l a w w) (under_layout d.names l (type_in n) a y.1)
     argued s g (tree.Unary (unary.Slide j l) t) (One a n) y h k f w e = argued _ g t n y.0 h.1 k.1 f.2 w (moved is_element false (type_in n) (types.ArrayOf _ _) y.1.2 refl)
     argued s g (tree.Unary (unary.Pad j l) t) (One a n) y h k f w e = argued _ g t n y.0 h.1 k.1 f.2 w (moved is_element false (type_in n) (types.ArrayOf _ _) y.1.2 refl)
     argued s g (tree.Unary unary.ToLocal t) (One a n) y h k f w e = copied ys t a n k.0 f.0 f.1 (same_literal ys a (h.0 N6)) (written (is_element (type_in n)) _ g t n y.0 h.1 k.1 f.2 refl refl)
     argued s g (tree.Unary unary.ToPrivate t) (One a n) y h k f w e = copied ys t a n k.0 f.0 f.1 (same_literal ys a (or_parts (not s.in_item) (hangs_on_sizes a) (h.0 N8)).1) (written (is_element (type_in n)) _ g t n y.0 h.1 k.1 f.2 refl refl)
     argued s g (tree.Unary unary.Then t) (One a n) y h k f w e = absurd (true_is_not_false true refl (h.0 N13))
-    argued s g (tree.Binary (binary.Operator o) t u) (Two a n m) y h k f w e = clash_element a types.U32 y.2.2 refl e
+    argued s g (tree.Binary (binary.Operator o) t u) (Two a n m) y h k f w e = true_is_not_false (is_element a) (operator_is o (type_in n) (type_in m) a y.2).2 e
     argued s g (tree.Binary binary.Pair t u) (Two a n m) y h k f w e =
         clash_element a (types.PairOf (type_in n) (type_in m)) y.2.2 (told_element (types.PairOf (type_in n) (type_in m)) (y.2.0, y.2.1)) e
     argued s g (tree.Binary binary.Zip t u) (Two a n m) y h k f w e = (
@@ -195,17 +196,17 @@ module _ (d : Declared) (inputs : Every IsInput d.inputs) (ys : List ℕ) where
     written false s g (tree.Variable v) (Leaf a) y h k f w e = tt
     written false s g (tree.Number v) (Leaf a) y h k f w e = tt
     written false s g (tree.Input i) (Leaf a) y h k f w e = refused s.is_written (is_element a) (h N11) w e
-    written false s g (tree.Unary (unary.Div j) t) (One a n) y h k f w e = clash_element a types.U32 y.1.2 refl e
-    written false s g (tree.Unary (unary.Rem j) t) (One a n) y h k f w e = clash_element a types.U32 y.1.2 refl e
+    written false s g (tree.Unary (unary.Div j) t) (One a n) y h k f w e = clash_element a (type_in n) y.1.2 (numeric_is (type_in n) y.1.1) e
+    written false s g (tree.Unary (unary.Rem j) t) (One a n) y h k f w e = clash_element a (type_in n) y.1.2 (numeric_is (type_in n) y.1.1) e
     written false s g (tree.Unary unary.First t) (One a n) y h k f w e = refused s.is_written (is_element a) (h.0 N10) w e
     written false s g (tree.Unary unary.Second t) (One a n) y h k f w e = refused s.is_written (is_element a) (h.0 N10) w e
-    written false s g (tree.Unary (unary.Layout l) t) (One a n) y h k f w e = written (is_element (type_in n)) _ g t n y.0 h.1 k.1 f.2 (passes s.is_written (is_element a) w e) refl
+    written false s g (tree.Unary (unary.Layout l) t) (One a n) y h k f w e = written (is_element (type_in n)) (passed s l a) g t n y.0 (through s l t a n (is_through s l t a n h.0 w e) h.1) k.1 f.2 (passes s.is_written (is_element a) w e) refl
     written false s g (tree.Unary (unary.Slide j l) t) (One a n) y h k f w e = refused s.is_written (is_element a) (h.0 N10) w e
     written false s g (tree.Unary (unary.Pad j l) t) (One a n) y h k f w e = refused s.is_written (is_element a) (h.0 N10) w e
     written false s g (tree.Unary unary.ToLocal t) (One a n) y h k f w e = refused s.is_written (is_element a) (h.0 N11) w e
     written false s g (tree.Unary unary.ToPrivate t) (One a n) y h k f w e = refused s.is_written (is_element a) (h.0 N11) w e
     written false s g (tree.Unary unary.Then t) (One a n) y h k f w e = absurd (true_is_not_false true refl (h.0 N13))
-    written false s g (tree.Binary (binary.Operator o) t u) (Two a n m) y h k f w e = clash_element a types.U32 y.2.2 refl e
+    written false s g (tree.Binary (binary.Operator o) t u) (Two a n m) y h k f w e = true_is_not_false (is_element a) (operator_is o (type_in n) (type_in m) a y.2).2 e
     written false s g (tree.Binary binary.Pair t u) (Two a n m) y h k f w e =
         clash_element a (types.PairOf (type_in n) (type_in m)) y.2.2 (told_element (types.PairOf (type_in n) (type_in m)) (y.2.0, y.2.1)) e
     written false s g (tree.Binary binary.Zip t u) (Two a n m) y h k f w e = refused s.is_written (is_element a) (h.0 N10) w e
@@ -217,7 +218,7 @@ module _ (d : Declared) (inputs : Every IsInput d.inputs) (ys : List ℕ) where
         (λ i. argued _ g v n y.0 h.1 k.0 f.1 (or_right s.in_argument (not (is_element (type_in n))) (not_from_false (is_element (type_in n)) i)) i)
         (written (is_element (type_in m)) _ (type_in n ∷ g) b m y.1 h.2 k.1 f.2 (passes s.is_written (is_element a) w e) refl)
     written false s g (tree.Map j xs b) (Two a n m) y h k f w e =
-        (argued _ g xs n y.2 h.1 k.0 f.1 (or_right s.in_argument true refl) (moved is_element false (type_in n) (types.ArrayOf _ _) y.3 refl), written (is_element (type_in m)) _ (y.0 ∷ g) b m y.4 h.2 k.1 f.2 (body_written s j b a) refl)
+        (argued _ g xs n y.2 h.1 k.0 f.1 (or_right s.in_argument true refl) (moved is_element false (type_in n) (types.ArrayOf _ _) y.3 refl), written (is_element (type_in m)) _ (y.0 ∷ g) b m y.4 h.2 k.1 f.2 (body_written s j xs b a) refl)
     written false s g (tree.Fold j xs x b) (Three a n m l) y h k f w e =
         let i = told_element (type_in m) y.5 in
         let o = moved is_element true (type_in l) (type_in m) y.7 i in (

@@ -21,12 +21,12 @@ use Rattle.lift_ir.specs.Lowerable.{IsStaged}
 use Rattle.lift_ir.proofs.Elements.{from_ir}
 use Rattle.lift_ir.proofs.Lets.{argument_let, let_parts}
 use Rattle.lift_ir.proofs.Reshaped.{through_layout}
-use Rattle.lowered_tree.specs.declared.around.Around.{Around}
+use Rattle.lowered_tree.specs.Around.{Around, passed}
 use Rattle.lowered_tree.specs.declared.rule.NestRule.TheVariants.{N5, N10}
-use Rattle.lowered_tree.specs.Forms.{shows_local_map}
+use Rattle.lowered_tree.specs.Forms.{is_written_through, shows_local_map}
 use Rattle.lowered_tree.specs.Kinds.{is_task}
 use Rattle.nest_premises.specs.Unbroken.{AllUnbroken}
-use Rattle.nest_premises.proofs.Rules.{moved, of_layout, true_is_not_false}
+use Rattle.nest_premises.proofs.Rules.{moved, of_layout, true_is_not_false, is_through, through}
 use Rattle.nest_premises.proofs.Staged.{passes, refused}
 
 pub body_staged : (v b : Tree) (a : PlainTy) (n m : Annotation) → IsStaged Written (tree.Let v b) (Two a n m) → ir.is_element a ≡ false → IsStaged Written b m
@@ -36,7 +36,7 @@ body_staged v b a n m (inr (inr o)) e = o.3
 
 -- a map over a group's items is parallel
 shows_no_task : {A : Type 0} (t : Tree) → shows_local_map t ≡ true → is_task t ≡ true → A
-shows_no_task (tree.Unary (unary.Layout l) t) e z = shows_no_task t e z
+shows_no_task (tree.Unary (unary.Layout l) t) e z = shows_no_task t (and_parts (is_written_through l) (shows_local_map t) e).1 z
 shows_no_task (tree.Let v b) e z = shows_no_task b e (and_parts (is_task v) (is_task b) z).1
 shows_no_task (tree.Map (map_kind.Over l k) xs b) e z = absurd (cc)
 shows_no_task (tree.Map map_kind.Plain xs b) e z = absurd (cc)
@@ -93,7 +93,10 @@ module _ (d : Declared) where
     written_stands s g (tree.Unary (unary.Rem j) t) (One a n) y h o z w = tt
     written_stands s g (tree.Unary unary.First t) (One a n) y h o z w = tt
     written_stands s g (tree.Unary unary.Second t) (One a n) y h o z w = tt
-    written_stands s g (tree.Unary (unary.Layout l) t) (One a n) y h o z w = through_layout (Stands true) (λ y u i k. (i, k)) d.names Written l a (type_in n) _ (written_stands _ g t n y.0 h.1 o z (passes s.is_written (is_element a) w (of_layout d.names l _ a y.1)))
+    written_stands s g (tree.Unary (unary.Layout l) t) (One a n) y h o z w =
+        let e = of_layout d.names l (type_in n) a y.1 in
+        let k = through s l t a n (is_through s l t a n h.0 w e) h.1 in
+        through_layout (Stands true) (λ y u i k. (i, k)) d.names Written l a (type_in n) _ (written_stands (passed s l a) g t n y.0 k o z (passes s.is_written (is_element a) w e))
     written_stands s g (tree.Unary (unary.Slide j l) t) (One a n) y h o z w = refused s.is_written (is_element a) (h.0 N10) w (moved is_element false a (types.ArrayOf _ _) y.1.6 refl)
     written_stands s g (tree.Unary (unary.Pad j l) t) (One a n) y h o z w = refused s.is_written (is_element a) (h.0 N10) w (moved is_element false a (types.ArrayOf _ _) y.1.3 refl)
     written_stands s g (tree.Binary (binary.Operator q) t u) (Two a n m) y h o z w = tt

@@ -1,7 +1,8 @@
 -- Where no parallel map is on top of a term without a broken rule, none is in it.
 use Rattle.std.proofs.Common.{◌≡◌, Bool, true, false, List, ◌∷◌, None, refl, inl, inr}
 use Rattle.std.proofs.lemmas.Bool.{and_from, and_parts, or_from, or_left, or_right, not_from_false}
-use Rattle.std.specs.Prelude.{not, ◌&&◌, ◌||◌}
+use Rattle.std.specs.Prelude.{not, ◌&&◌, ◌||◌, if◌then◌else◌}
+use Rattle.lift_tree.specs.declared.layout.Layout as layout
 use Rattle.lift_tree.specs.declared.term.UnaryForm.TheVariants as unary
 use Rattle.lift_tree.specs.declared.term.BinaryForm.TheVariants as binary
 use Rattle.lift_tree.specs.declared.term.Dimension.TheVariants.{X, Y}
@@ -17,14 +18,15 @@ use Rattle.lift_tree.specs.Annotations.{Annotation, Leaf, One, Two, Three, type_
 use Rattle.lift_ir.specs.Lowering.{Written}
 use Rattle.lift_ir.specs.Lowerable.{IsStaged}
 use Rattle.lift_ir.proofs.Elements.{from_ir}
-use Rattle.lowered_tree.specs.declared.around.Around.{Around}
+use Rattle.lowered_tree.specs.Around.{Around, laid_out, passed}
 use Rattle.lowered_tree.specs.declared.rule.NestRule.TheVariants.{N1, N2, N9, N10}
+use Rattle.lowered_tree.specs.Forms.{is_written_through}
 use Rattle.lowered_tree.specs.Kinds.{is_parallel, is_task}
 use Rattle.lowered_tree.specs.Kind.{spread_over, nest_kind}
 use Rattle.lowered_tree.specs.declared.kind.NestKind.{NestKind}
 use Rattle.lowered_tree.specs.declared.kind.NestKind.TheVariants.{Task, OverLaunch, OverGroups, OverGrid}
 use Rattle.nest_premises.specs.Unbroken.{AllUnbroken}
-use Rattle.nest_premises.proofs.Rules.{spared, true_is_not_false, clash, moved, of_layout, still_none, not_awaited}
+use Rattle.nest_premises.proofs.Rules.{spared, true_is_not_false, clash, moved, of_layout, still_none, not_awaited, below, is_through, through, seen}
 use Rattle.nest_premises.proofs.Staged.{passes, refused}
 use Rattle.nest_premises.proofs.Alone.{three, element_alone, argument_alone}
 
@@ -45,7 +47,11 @@ by_kind OverGroups f h = h (λ e. absurd (cc))
 by_kind OverGrid f h = h (λ e. absurd (cc))
 
 pub kind_of_task : (t : Tree) → is_task t ≡ true → nest_kind t ≡ Task
-kind_of_task (tree.Unary (unary.Layout l) t) z = kind_of_task t z
+kind_of_task (tree.Unary (unary.Layout l) t) z = go (is_written_through l) (kind_of_task t z)
+  where
+    go : (x : Bool) → nest_kind t ≡ Task → (if x then nest_kind t else Task) ≡ Task
+    go true e = e
+    go false e = refl
 kind_of_task (tree.Let v b) z = kind_of_task b (and_parts (is_task v) (is_task b) z).1
 kind_of_task (tree.Map map_kind.Plain xs b) z = refl
 kind_of_task (tree.Map (map_kind.Over l k) xs b) z = absurd (cc)
@@ -65,10 +71,18 @@ spread_no_task t e = go (is_task t) refl
     go true z = absurd (e (kind_of_task t z))
     go false z = refl
 
+-- through a layout that is written through
+pub spread_through : (l : layout.Layout) (t : Tree) → IsSpread (tree.Unary (unary.Layout l) t) → (is_written_through l ≡ true) × IsSpread t
+spread_through l t e = go (is_written_through l) e
+  where
+    go : (x : Bool) → ((if x then nest_kind t else Task) ≡ Task → ⊥) → (x ≡ true) × IsSpread t
+    go true e = (refl, e)
+    go false e = absurd (e refl)
+
 module _ (d : Declared) where
   -- N9: where a parallel map is on top, no let of an element is above
   pub not_serial : {A : Type 0} (s : Around) (g : List PlainTy) (t : Tree) (n : Annotation) → Annotates d g t n → AllUnbroken s t n → s.in_serial ≡ true → IsSpread t → A
-  not_serial s g (tree.Unary (unary.Layout l) t) (One a n) y h w e = not_serial _ g t n y.0 h.1 w e
+  not_serial s g (tree.Unary (unary.Layout l) t) (One a n) y h w e = not_serial (laid_out s l a) g t n y.0 h.1 (below (λ z. z.in_serial ≡ true) s l a w w) (spread_through l t e).1
   not_serial s g (tree.Let v b) (Two a n m) y h w e = not_serial _ (type_in n ∷ g) b m y.1 h.2 (or_left s.in_serial (is_element (type_in n)) w) e
   not_serial s g (tree.Map k xs b) (Two a n m) y h w e = true_is_not_false s.in_serial w (spared (is_parallel k) s.in_serial (h.0 N9) (spread_parallel k e))
   not_serial s g (tree.Variable v) n y h w e = absurd (e refl)
@@ -95,7 +109,10 @@ module _ (d : Declared) where
   task_of_kind s g (tree.Unary (unary.Rem j) t) (One a n) y h o w i q k c e = element_alone t n o
   task_of_kind s g (tree.Unary unary.First t) (One a n) y h o w i q k c e = element_alone t n o
   task_of_kind s g (tree.Unary unary.Second t) (One a n) y h o w i q k c e = element_alone t n o
-  task_of_kind s g (tree.Unary (unary.Layout l) t) (One a n) y h o w i q k c e = task_of_kind _ g t n y.0 h.1 o (passes s.is_written (is_element a) w (of_layout d.names l _ a y.1)) i q k (still_none l s.awaited c) e
+  task_of_kind s g (tree.Unary (unary.Layout l) t) (One a n) y h o w i q k c e =
+      let v = of_layout d.names l (type_in n) a y.1 in
+      let r = is_through s l t a n h.0 w v in
+      task_of_kind (passed s l a) g t n y.0 (through s l t a n r h.1) o (passes s.is_written (is_element a) w v) i q k (still_none l s.awaited c) (seen l (nest_kind t) Task e r)
   task_of_kind s g (tree.Unary (unary.Slide j l) t) (One a n) y h o w i q k c e = refused s.is_written (is_element a) (h.0 N10) w (moved is_element false a (types.ArrayOf _ _) y.1.6 refl)
   task_of_kind s g (tree.Unary (unary.Pad j l) t) (One a n) y h o w i q k c e = refused s.is_written (is_element a) (h.0 N10) w (moved is_element false a (types.ArrayOf _ _) y.1.3 refl)
   task_of_kind s g (tree.Binary (binary.Operator r) t u) (Two a n m) y h o w i q k c e = and_from _ _ (element_alone t n o.0) (element_alone u m o.1)

@@ -13,6 +13,7 @@ use Rattle.lift_tree.proofs.WithinLimits.{all_few}
 use Rattle.lift_ir.specs.Types.{IsFlat, IsShort, IsPlaced, size}
 use Rattle.lift_ir.specs.AtLaunch.{length_at, shape_of}
 use Rattle.lift_ir.specs.Forms.{Stands, StandsOverLaunch}
+use Rattle.lift_ir.specs.Fours.{KeepsFours}
 use Rattle.lift_ir.specs.Lowering as ir
 use Rattle.lift_ir.specs.Lowerable.{IsStaged}
 use Rattle.lift_ir.specs.Owner.{is_in_rows}
@@ -28,9 +29,11 @@ use Rattle.lowered_tree.specs.Kind.{nest_kind}
 use Rattle.lowered_tree.specs.declared.kind.NestKind.{NestKind}
 use Rattle.lowered_tree.specs.declared.kind.NestKind.TheVariants.{Task, OverLaunch, OverGroups, OverGrid}
 use Rattle.nest_premises.specs.Printable.{CanBeLowered, IsPrintable, printer_of, printer_for}
-use Rattle.nest_premises.specs.Laws.{LegalTermsCanBeLowered, KindsTellTasks, UngroupedTermsArePrintable, TasksArePrintable, LaunchesArePrintable, LegalNestsAreUnbroken, TasksStand, LaunchesStand, RowsAreOnTop, TermsAskForRows}
+use Rattle.nest_premises.specs.Laws.{LegalTermsCanBeLowered, LegalTermsKeepFours, KindsTellTasks, UngroupedTermsArePrintable, TasksArePrintable, LaunchesArePrintable, LegalNestsAreUnbroken, TasksStand, LaunchesStand, RowsAreOnTop, TermsAskForRows}
 use Rattle.nest_premises.specs.Unbroken.{AllUnbroken}
 use Rattle.nest_premises.proofs.Fits.{Fits}
+use Rattle.nest_premises.proofs.Fours.{keeps_fours}
+use Rattle.nest_premises.proofs.Paired.{inputs_paired}
 use Rattle.nest_premises.proofs.Rules.{all_unbroken}
 use Rattle.nest_premises.proofs.Staged.{written}
 use Rattle.nest_premises.proofs.Lowerable.{written_lowerable}
@@ -76,6 +79,10 @@ module _ (d : Declared) (t : Tree) (n : Annotation) (r : IsLegalTerm d t n) (cop
     fits = λ bases ok. (placed bases ok (type_in n) r.output (limited bases ok).1, all_placed bases ok d.inputs r.declared.arrays (few_all d r.declared scalars bases ok d.inputs r.declared.inputs scalars));
   }
 
+  -- its vectors are loaded and stored as such
+  fours : KeepsFours (lowered_root d.names t n)
+  fours = keeps_fours d (inputs_paired d.inputs r.declared.arrays) t n r.nodes unbroken copies staged
+
   one_item : is_task t ≡ true → Stands true (lowered_root d.names t n)
   one_item z = written_stands d (at_root t) [] t n r.nodes unbroken staged z refl
 
@@ -84,10 +91,10 @@ module _ (d : Declared) (t : Tree) (n : Annotation) (r : IsLegalTerm d t n) (cop
 
   -- what is lowered can be printed, where it has the forms of their places
   task : is_task t ≡ true → IsPrintable OfItems d t n
-  task z = record { can = lowered; stands = inl (one_item z); at_launch = λ local bases l k. inl (k.admissible.alone z, one_item z) }
+  task z = record { can = lowered; stands = inl (one_item z); at_launch = λ local bases l k. inl (k.admissible.alone z, one_item z); fours = fours }
 
   launch : nest_kind t ≡ OverLaunch → IsPrintable OfItems d t n
-  launch e = record { can = lowered; stands = inr (all_items e); at_launch = λ local bases l k. inr (all_items e) }
+  launch e = record { can = lowered; stands = inr (all_items e); at_launch = λ local bases l k. inr (all_items e); fours = fours }
 
   -- at the root
   kind : (nest_kind t ≡ Task) ↔ (is_task t ≡ true)
@@ -128,6 +135,9 @@ module _ (d : Declared) (t : Tree) (n : Annotation) (r : IsLegalTerm d t n) (cop
 
 pub legal_terms_can_be_lowered : LegalTermsCanBeLowered
 legal_terms_can_be_lowered d t n r copies = lowered d t n r copies
+
+pub legal_terms_keep_fours : LegalTermsKeepFours
+legal_terms_keep_fours d t n r copies = fours d t n r copies
 
 pub kinds_tell_tasks : KindsTellTasks
 kinds_tell_tasks d t n r copies = kind d t n r copies

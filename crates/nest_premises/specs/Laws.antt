@@ -7,14 +7,14 @@ use Rattle.lift_tree.specs.Tree.{Tree, Let, Map}
 use Rattle.lift_tree.specs.Types.{PlainTy, IsElement, is_element}
 use Rattle.lift_tree.specs.Typing.{Declared}
 use Rattle.lift_tree.specs.Annotations.{Annotation, Two, type_in, Annotates}
+use Rattle.lift_ir.specs.Fours.{KeepsFours}
 use Rattle.lift_ir.specs.Forms.{Stands, StandsOverLaunch}
 use Rattle.lift_ir.specs.Lowering as ir
 use Rattle.lift_ir.specs.Lowering.{Written, lower}
 use Rattle.lift_ir.specs.Lowerable.{IsStaged}
 use Rattle.lift_ir.specs.Owner.{is_in_rows}
 use Rattle.printed_form.specs.Programs.{lowered_root}
-use Rattle.lowered_tree.specs.declared.around.Around.{Around}
-use Rattle.lowered_tree.specs.Around.{at_root}
+use Rattle.lowered_tree.specs.Around.{Around, at_root}
 use Rattle.lowered_tree.specs.Kinds.{is_task, has_rows, asks_of}
 use Rattle.lowered_tree.specs.Nest.{IsLegalNest}
 use Rattle.lowered_tree.specs.Copies.{CopiesArrays}
@@ -54,6 +54,12 @@ abbrev pub LaunchesArePrintable : Type 0
 LaunchesArePrintable =
     (d : Declared) (t : Tree) (n : Annotation) → IsLegalTerm d t n → CopiesArrays t n
     → nest_kind t ≡ OverLaunch → IsPrintable OfItems d t n
+
+-- what a legal term is lowered to loads and stores each vector as one
+abbrev pub LegalTermsKeepFours : Type 0
+LegalTermsKeepFours =
+    (d : Declared) (t : Tree) (n : Annotation) → IsLegalTerm d t n → CopiesArrays t n
+    → KeepsFours (lowered_root d.names t n)
 
 -- ---- what stands for whom
 

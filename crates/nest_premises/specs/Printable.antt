@@ -7,6 +7,7 @@ use Rattle.lift_tree.specs.Annotations.{Annotation}
 use Rattle.kernel_tree.specs.Launch.{Launch}
 use Rattle.lift_ir.specs.Lowering.{Written}
 use Rattle.lift_ir.specs.Lowerable.{IsStaged}
+use Rattle.lift_ir.specs.Fours.{KeepsFours}
 use Rattle.lowered_tree.specs.Kind.{nest_kind}
 use Rattle.lowered_tree.specs.Kinds.{asks_of}
 use Rattle.lowered_tree.specs.declared.kind.NestKind.{NestKind}
@@ -20,14 +21,15 @@ pub record CanBeLowered (d : Declared) (t : Tree) (n : Annotation) : Type 0 wher
   pub lowerable : (bases : List ℕ) → Admissible d.names bases → IsLowerableProgram d bases t n
   pub fits : (bases : List ℕ) → Admissible d.names bases → FitsBuffers d bases n
 
--- it can be lowered, and what it is lowered to can be printed by this printer, at every admissible
--- launch, whatever local size is fixed
+-- it can be lowered, and what it is lowered to can be printed by this printer, its vectors loaded
+-- and stored as such, at every admissible launch, whatever local size is fixed
 pub record IsPrintable (p : Printer) (d : Declared) (t : Tree) (n : Annotation) : Type 0 where
   pub can : CanBeLowered d t n
   pub stands : StandsFor p (lowered_root d.names t n)
   pub at_launch : (local : Option (ℕ × ℕ)) (bases : List ℕ) (l : Launch)
       → IsLaunchOf d (asks_of local t) bases t n l
       → StandsForLaunch p l (lowered_root d.names t n)
+  pub fours : KeepsFours (lowered_root d.names t n)
 
 -- the printer of a nest's kind
 abbrev pub printer_of : NestKind → Printer

@@ -2,9 +2,8 @@
 use Rattle.std.specs.Prelude.{false}
 use Rattle.lift_tree.specs.Tree.{Tree, Unary, Binary, Select, Let, Map, Fold}
 use Rattle.lift_tree.specs.Annotations.{Annotation, One, Two, Three, type_in}
-use Rattle.lowered_tree.specs.declared.around.Around.{Around}
 use Rattle.lift_tree.specs.Types.{is_element}
-use Rattle.lowered_tree.specs.Around.{operand, under_form, argument, let_body, map_body, fold_body}
+use Rattle.lowered_tree.specs.Around.{Around, operand, under_form, argument, let_body, map_body, fold_body}
 use Rattle.lowered_tree.specs.Nest.{site_at, IsUnbroken}
 
 -- no rule is broken at a node with this around it
@@ -24,10 +23,10 @@ AllUnbroken s (Select t u w) (Three a n m l) =
 AllUnbroken s (Let v b) (Two a n m) =
     IsUnbrokenAt s (Let v b) (Two a n m)
     × AllUnbroken (argument s (is_element (type_in n)) a) v n
-    × AllUnbroken (let_body s (is_element (type_in n)) a) b m
+    × AllUnbroken (let_body s (is_element (type_in n)) v a) b m
 AllUnbroken s (Map k xs b) (Two a n m) =
     IsUnbrokenAt s (Map k xs b) (Two a n m)
-    × AllUnbroken (argument s false a) xs n × AllUnbroken (map_body s k b a) b m
+    × AllUnbroken (argument s false a) xs n × AllUnbroken (map_body s k xs b a) b m
 AllUnbroken s (Fold k xs z b) (Three a n m l) =
     IsUnbrokenAt s (Fold k xs z b) (Three a n m l)
     × AllUnbroken (argument s false a) xs n × AllUnbroken (operand s a) z m

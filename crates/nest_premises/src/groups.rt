@@ -11,8 +11,8 @@ ghost use Rattle.nest_premises.specs.Groups.{
 
 use crate::laws::{
     element_tests_agree, item_bodies_stand, kinds_tell_tasks, launches_stand,
-    legal_nests_are_unbroken, legal_terms_can_be_lowered, lets_around_maps_bind_no_element,
-    tasks_stand, ungrouped_terms_are_printable,
+    legal_nests_are_unbroken, legal_terms_can_be_lowered, legal_terms_keep_fours,
+    lets_around_maps_bind_no_element, tasks_stand, ungrouped_terms_are_printable,
 };
 
 /// What a legal term is lowered to is for one work-item, over all of them, over work-groups, or
@@ -35,6 +35,7 @@ pub fn legal_groups_stand_over_groups()
     ensures { LegalGroupsStandOverGroups }
 {
     legal_terms_can_be_lowered();
+    legal_terms_keep_fours();
     legal_nests_stand();
 }
 
@@ -43,6 +44,7 @@ pub fn legal_grids_stand_over_grids()
     ensures { LegalGridsStandOverGrids }
 {
     legal_terms_can_be_lowered();
+    legal_terms_keep_fours();
     legal_nests_stand();
 }
 

@@ -9,6 +9,7 @@ ghost use Rattle.nest_premises.specs.Laws.{
   LaunchesStand,
   LegalNestsAreUnbroken,
   LegalTermsCanBeLowered,
+  LegalTermsKeepFours,
   LetsAroundMapsBindNoElement,
   RowsAreOnTop,
   TasksArePrintable,
@@ -20,6 +21,11 @@ ghost use Rattle.nest_premises.specs.Laws.{
 /// A legal term can be lowered, whatever its maps.
 pub fn legal_terms_can_be_lowered()
     ensures { LegalTermsCanBeLowered }
+{}
+
+/// What a legal term is lowered to loads and stores each vector as one.
+pub fn legal_terms_keep_fours()
+    ensures { LegalTermsKeepFours }
 {}
 
 /// The kind of a legal term tells whether it has a parallel map.

@@ -203,6 +203,66 @@ const BROKEN_IN_ROWS: [(&str, &str, &str, NestRule); 18] = [
     ),
 ];
 
+// Vectors of four.
+const EIGHT: &str = "input xs: [u32; 8]; output map(\\x. x, xs)";
+
+const IN_ROWS_OF_FOUR: &str =
+    "input xs: [[u32; 4]; 2]; output map(\\r. map(\\x. x, map(\\y. y, r)), xs)";
+
+const BROKEN_BY_VECTORS: [(&str, &str, &str, NestRule); 8] = [
+    // what is read in fours is aligned
+    (
+        "input xs: [[u32; 4]; 4]; output map(\\r. map(\\x. x, r), transpose(xs))",
+        "at 1 vector\nat 1.0 to-seq\nat . to-seq",
+        "100",
+        NestRule::N15,
+    ),
+    (
+        "input xs: [u32; 8]; output map(\\x. x, reverse(xs))",
+        "at . vector\nat 0 to-seq",
+        "00",
+        NestRule::N15,
+    ),
+    (
+        "input xs: [u32; 8]; output map(\\w. map(\\x. x, w), slide(4, 4, xs))",
+        "at 1 vector\nat 1.0 to-seq\nat . to-seq",
+        "100",
+        NestRule::N15,
+    ),
+    (
+        EIGHT,
+        "at . vector\nat 0 to-seq\nat 0.0.0 private-copy",
+        "00",
+        NestRule::N15,
+    ),
+    // no copy holds vectors
+    (
+        EIGHT,
+        "at . vector\nat 0 to-seq\nat 0.0 private-copy",
+        "00",
+        NestRule::N15,
+    ),
+    // what is written in fours goes by join and split to the output, or to local memory
+    (
+        "input xs: [[u32; 4]; 4]; output transpose(map(\\r. map(\\x. x, r), xs))",
+        "at 0.1 vector\nat 0.1.0 to-seq\nat 0 to-seq",
+        "01",
+        NestRule::N15,
+    ),
+    (
+        IN_ROWS_OF_FOUR,
+        "at 1.0 vector\nat 1.0.0 to-seq\nat 1.0 private\nat 1 to-seq\nat . to-seq",
+        "100",
+        NestRule::N15,
+    ),
+    (
+        IN_ROWS_OF_FOUR,
+        "at 1.0 vector\nat 1.0.0 to-seq\nat 1 to-seq\nat . to-seq",
+        "10",
+        NestRule::N15,
+    ),
+];
+
 // A program, a script, and the spaces of its last term's computing nodes in preorder:
 // global, local or private.
 const LEGAL: [(&str, &str, &str); 14] = [
@@ -237,6 +297,31 @@ const LEGAL: [(&str, &str, &str); 14] = [
         "input xs: [[[[u32; 2]; 3]; 2]; 4]; output map(\\a. map(\\b. map(\\c. map(\\d. d, c), map(\\e. map(\\f. f, e), b)), a), xs)",
         "at 1.1.0.1 to-lcl\nat 1.1.0 to-lcl1\nat 1.1.0 local\nat 1.1.1 to-lcl\nat 1.1 to-lcl1\nat 1 to-wrg\nat . to-wrg1",
         "ggglllgg",
+    ),
+];
+
+// The same.
+const LEGAL_WITH_VECTORS: [(&str, &str, &str); 5] = [
+    (EIGHT, "at . vector\nat 0 to-seq", "gg"),
+    (
+        "input xs: [u32; 8]; output let ys = xs in map(\\x. x, ys)",
+        "at 1 vector\nat 1.0 to-glb",
+        "gg",
+    ),
+    (
+        "input xs: [u32; 8]; output split(4, map(\\x. x, xs))",
+        "at 0 vector\nat 0.0 to-seq",
+        "gg",
+    ),
+    (
+        "input xs: [u32; 8]; output join(map(\\r. map(\\x. x, r), split(4, xs)))",
+        "at 0.1 vector\nat 0.1.0 to-seq\nat 0 to-glb",
+        "ggg",
+    ),
+    (
+        IN_ROWS_OF_FOUR,
+        "at 1.0 vector\nat 1.0.0 to-lcl\nat 1.0 local\nat 1 to-lcl\nat . to-wrg",
+        "ggllg",
     ),
 ];
 
@@ -383,6 +468,10 @@ fn the_first_broken_rule_is_told(rt: HostRuntime) -> Result<(), Fail> {
         let judged = judged(rt.alloc(), program, script, None)?;
         assert!(rt; breaks(judged, digits, rule), "{script}");
     }
+    for (program, script, digits, rule) in BROKEN_BY_VECTORS {
+        let judged = judged(rt.alloc(), program, script, None)?;
+        assert!(rt; breaks(judged, digits, rule), "{script}");
+    }
     Ok(())
 }
 
@@ -403,6 +492,9 @@ fn no_item_of_a_fixed_size_is_idle(rt: HostRuntime) -> Result<(), Fail> {
 #[test]
 fn computing_nodes_have_their_spaces(rt: HostRuntime) -> Result<(), Fail> {
     for (program, script, want) in LEGAL {
+        assert!(rt; has_spaces(rt.alloc(), program, script, want)?, "{script}");
+    }
+    for (program, script, want) in LEGAL_WITH_VECTORS {
         assert!(rt; has_spaces(rt.alloc(), program, script, want)?, "{script}");
     }
     Ok(())

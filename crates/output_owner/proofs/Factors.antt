@@ -6,7 +6,7 @@ use Rattle.std.proofs.lemmas.Nat.{mul-mod_second}
 use Rattle.lift_tree.specs.declared.length.Factor.{Factor}
 use Rattle.lift_tree.specs.declared.length.Factor.TheVariants.{Number}
 use Rattle.lift_tree.specs.Meaning.{factor_at, nth_size, product_at}
-use Rattle.lift_tree.specs.Types.{PlainTy, U32, PairOf, ArrayOf}
+use Rattle.lift_tree.specs.Types.{PlainTy, U32, U32x4, PairOf, ArrayOf}
 use Rattle.lift_ir.specs.AtLaunch.{length_at, ty_at}
 use Rattle.lift_ir.specs.Types.{size}
 use Rattle.output_owner.specs.Numbers.{IsOfComponent, IsStepOf, strided}
@@ -34,6 +34,7 @@ pub record IsSame (bases : List ℕ) (step other : ℕ) (b : PlainTy) (k : ℕ) 
 
 pub in_32_bits : (bases : List ℕ) (step : ℕ) (b : PlainTy) (k : ℕ) → IsOfComponent bases b k → IsStepOf bases step b → IsSame bases step (step % 4294967296) b k
 in_32_bits bases step U32 k h is = record { is_step = tt; number = refl }
+in_32_bits bases step U32x4 k h is = record { is_step = tt; number = refl }
 in_32_bits bases step (PairOf a b) k h is = record { is_step = tt; number = refl }
 in_32_bits bases step (ArrayOf x n) k h is =
     let low = h.below in

@@ -11,7 +11,7 @@ use Rattle.size_arith.specs.Shown.{ShownAtLeast}
 use Rattle.size_arith.proofs.Soundness.{shown_at_least}
 use Rattle.lift_tree.specs.declared.length.Factor.{Factor}
 use Rattle.lift_tree.specs.declared.layout.Layout as layout
-use Rattle.lift_tree.specs.declared.layout.Layout.TheVariants.{Join, Transpose, Split, Reverse, Stride}
+use Rattle.lift_tree.specs.declared.layout.Layout.TheVariants.{Join, Transpose, Split, Reverse, Stride, AsVector, AsScalar}
 use Rattle.lift_tree.specs.declared.term.UnaryForm.TheVariants.{Div, First, Layout, Pad, Rem, Second, Slide, Then, ToLocal, ToPrivate}
 use Rattle.lift_tree.specs.declared.term.Dimension.{Dimension}
 use Rattle.lift_tree.specs.declared.term.Dimension.TheVariants.{X, Y}
@@ -22,6 +22,7 @@ use Rattle.lift_tree.specs.Annotations.{Annotation, One, Two, type_in}
 use Rattle.lift_tree.specs.Tree.{Tree, Unary, Let, Map, nodes, tree_of}
 use Rattle.lift_tree.specs.Types.{PlainTy, ArrayOf, is_element}
 use Rattle.lift_tree.specs.Meaning.{product_at}
+use Rattle.lift_tree.specs.Typing.{constant}
 use Rattle.lift_tree.specs.WorkedOut.{product_of}
 use Rattle.lift_tree.proofs.Sizes.{product_value, value-of_monomial}
 use Rattle.lift_ir.specs.AtLaunch.{inner_of, length_at, natural, ty_at, outer_of}
@@ -37,13 +38,13 @@ use Rattle.lift_ir.specs.Types.{Ty, size, unflat}
 use Rattle.lift_ir.proofs.Elements.{told_ir}
 use Rattle.lift_ir.proofs.Lets.{written_let}
 use Rattle.lift_ir.proofs.Positions as positions
-use Rattle.lift_ir.proofs.AtLaunch.{join_reshapes, split_reshapes, stride_lengths, Strides}
+use Rattle.lift_ir.proofs.AtLaunch.{join_reshapes, scalar_reshapes, split_reshapes, stride_lengths, Strides}
 use Rattle.launch_lengths.specs.Bases.{bases_of}
 use Rattle.output_owner.specs.declared.walk.OnTop.{OnTop}
 use Rattle.output_owner.specs.Owners.{owner_along, local_along, HaveOneOwner, IsOfNone, IsOfTop, map_over, position, written}
 use Rattle.output_owner.specs.Numbers.{HasStep, IsOfComponent, IsStepOf, moved, operand_number, reversed, strided, transposed, turned}
 use Rattle.output_owner.specs.Written.{IsScalarOf, IsWritten}
-use Rattle.output_owner.proofs.Legal.{below_layout, below_let, below_map, no_pad, no_slide, operand_formed}
+use Rattle.output_owner.proofs.Legal.{below_layout, below_let, below_map, no_pad, no_slide, no_vectors, operand_formed}
 use Rattle.output_owner.proofs.Products.{second_below, second_some}
 use Rattle.output_owner.proofs.Rows.{in_rows, moves, stride_moves, turns}
 
@@ -228,6 +229,20 @@ module _ (names : List Name) (sizes : List ℕ) where
       owner = through_layout bases (layouts.Join (inner_of (type_in n))) (written names t n) (position bases (One a n) k) (position bases n k) (join_position (length_at bases) (inner_of (type_in n)) (ty_at bases (type_in n)) (ty_at bases a) k joined (some (Unary (Layout Join) t) (One a n) k s));
     }
 
+  -- numbers of vectors
+  module _ (t : Tree) (a : PlainTy) (n : Annotation) (k : ℕ) (s : IsScalarOf names sizes (Unary (Layout AsScalar) t) (One a n) k) where
+    laid : Reshapes (length_at bases) (layouts.Join (constant 4)) (ty_at bases (type_in n)) (ty_at bases a)
+    laid = scalar_reshapes s.term.declared bases (shown (Unary (Layout AsScalar) t) (One a n) k s) (type_in n) a (operand_formed names (Layout AsScalar) t a n s.term) s.term.nodes.1
+
+    size_of_numbers : size (ty_at bases a) ≡ size (ty_at bases (type_in n))
+    size_of_numbers = join_size (constant 4) (ty_at bases (type_in n)) (ty_at bases a) laid
+
+    through_numbers : Steps (Unary (Layout AsScalar) t) (One a n) k t n k
+    through_numbers = record {
+      scalar = same_number (Unary (Layout AsScalar) t) (One a n) k s t n (below AsScalar t a n k s) size_of_numbers;
+      owner = through_layout bases (layouts.Join (constant 4)) (written names t n) (position bases (One a n) k) (position bases n k) (join_position (length_at bases) (constant 4) (ty_at bases (type_in n)) (ty_at bases a) k laid (some (Unary (Layout AsScalar) t) (One a n) k s));
+    }
+
   module _ (fs : List Factor) (t : Tree) (a : PlainTy) (n : Annotation) (k : ℕ) (s : IsScalarOf names sizes (Unary (Layout (Split fs)) t) (One a n) k) where
     cut : Reshapes (length_at bases) (layouts.Split (inner_of a)) (ty_at bases (type_in n)) (ty_at bases a)
     cut = split_reshapes s.term.declared bases (shown (Unary (Layout (Split fs)) t) (One a n) k s) fs (type_in n) a (operand_formed names (Layout (Split fs)) t a n s.term) s.term.nodes.1
@@ -356,6 +371,8 @@ module _ (names : List Name) (sizes : List ℕ) where
   through (Split fs) t a n k s = through_split fs t a n k s
   through Reverse t a n k s = through_reverse t a n k s
   through (Stride fs) t a n k s = through_stride fs t a n k s
+  through AsVector t a n k s = absurd (no_vectors names t a n s.term)
+  through AsScalar t a n k s = through_numbers t a n k s
 
   layout_size : (l : layout.Layout) (t : Tree) (a : PlainTy) (n : Annotation) (k : ℕ) → IsScalarOf names sizes (Unary (Layout l) t) (One a n) k → size (ty_at bases a) ≡ size (ty_at bases (type_in n))
   layout_size Join t a n k s = size_of_join t a n k s
@@ -363,6 +380,8 @@ module _ (names : List Name) (sizes : List ℕ) where
   layout_size (Split fs) t a n k s = size_of_split fs t a n k s
   layout_size Reverse t a n k s = size_of_reverse t a n k s
   layout_size (Stride fs) t a n k s = size_of_stride fs t a n k s
+  layout_size AsVector t a n k s = absurd (no_vectors names t a n s.term)
+  layout_size AsScalar t a n k s = size_of_numbers t a n k s
 
   pub of_component : (l : layout.Layout) (t : Tree) (a : PlainTy) (n : Annotation) (k : ℕ) → IsScalarOf names sizes (Unary (Layout l) t) (One a n) k → IsOfComponent bases (type_in n) k
   of_component l t a n k s = let e = layout_size l t a n k s in record { few = subst (λ (z : ℕ). z < 2 ^ 31) e s.scalar.few; below = subst (λ (z : ℕ). k < z) e s.scalar.below }
@@ -373,6 +392,8 @@ module _ (names : List Name) (sizes : List ℕ) where
   step_of (Split fs) t a n k s = tt
   step_of Reverse t a n k s = tt
   step_of (Stride fs) t a n k s = has_step fs t a n k s
+  step_of AsVector t a n k s = tt
+  step_of AsScalar t a n k s = tt
 
   pub through_let : (v b : Tree) (a : PlainTy) (n m : Annotation) (k : ℕ) → IsScalarOf names sizes (Let v b) (Two a n m) k → is_element a ≡ false → is_element (type_in n) ≡ false → Steps (Let v b) (Two a n m) k b m k
   through_let v b a n m k s e f =

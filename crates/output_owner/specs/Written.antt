@@ -9,7 +9,7 @@ use Rattle.lift_tree.specs.Types.{PlainTy, IsFormed}
 use Rattle.lift_tree.specs.Typing.{Declared, IsDeclared}
 use Rattle.lift_ir.specs.AtLaunch.{ty_at}
 use Rattle.lift_ir.specs.Types.{size}
-use Rattle.lowered_tree.specs.declared.around.Around.{Around}
+use Rattle.lowered_tree.specs.Around.{Around}
 use Rattle.nest_premises.specs.Unbroken.{AllUnbroken}
 use Rattle.launch_lengths.specs.Bases.{bases_of}
 

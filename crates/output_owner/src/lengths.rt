@@ -45,6 +45,7 @@ pub fn scalars(ty: &Ty, names: &[Name], sizes: &[u32]) -> u32
 {
     match ty {
         Ty::Number | Ty::Pair(_, _) => 1,
+        Ty::Vector => 4,
         Ty::Array(element, length) => {
             let length = length_of(length, names, sizes);
             length.wrapping_mul(scalars(element, names, sizes))

@@ -83,9 +83,9 @@ fn in_rows(rows: &Ty, number: u64, names: &[Name], sizes: &[u32]) -> u64
                 let width = length_of(width, names, sizes);
                 moved(count, width, scalars(element, names, sizes), number)
             }
-            Ty::Number | Ty::Pair(_, _) => number,
+            Ty::Number | Ty::Vector | Ty::Pair(_, _) => number,
         },
-        Ty::Number | Ty::Pair(_, _) => number,
+        Ty::Number | Ty::Vector | Ty::Pair(_, _) => number,
     }
 }
 
@@ -100,7 +100,7 @@ fn from_last(elements: &Ty, number: u64, names: &[Name], sizes: &[u32]) -> u64
             let count = length_of(count, names, sizes);
             turned(count, scalars(element, names, sizes), number)
         }
-        Ty::Number | Ty::Pair(_, _) => number,
+        Ty::Number | Ty::Vector | Ty::Pair(_, _) => number,
     }
 }
 
@@ -119,7 +119,7 @@ fn in_steps(elements: &Ty, step: u32, number: u64, names: &[Name], sizes: &[u32]
             let count = length_of(count, names, sizes);
             moved(count / step, step, scalars(element, names, sizes), number)
         }
-        Ty::Number | Ty::Pair(_, _) => number,
+        Ty::Number | Ty::Vector | Ty::Pair(_, _) => number,
     }
 }
 
@@ -132,7 +132,7 @@ fn in_operand(layout: &Layout, operand: &Ty, number: u64, names: &[Name], sizes:
         (ty_of operand.now) number }
 {
     match layout {
-        Layout::Join | Layout::Split(_) => number,
+        Layout::Join | Layout::Split(_) | Layout::AsVector | Layout::AsScalar => number,
         Layout::Transpose => in_rows(operand, number, names, sizes),
         Layout::Reverse => from_last(operand, number, names, sizes),
         Layout::Stride(step) => {

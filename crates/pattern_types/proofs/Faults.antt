@@ -1,5 +1,5 @@
 -- What holds of each fault that judging a row of the table answers.
-use Rattle.std.proofs.Common.{◌≡◌, ℕ, ◌<◌, List, [], ◌∷◌, length, refl, sym, ap, ◌∙◌, subst, arith, Bool, true, false, Some, None, inl, inr}
+use Rattle.std.proofs.Common.{◌≡◌, ℕ, ◌*◌, ◌<◌, List, [], ◌∷◌, length, refl, sym, ap, ◌∙◌, subst, arith, Bool, true, false, Some, None, inl, inr}
 use Rattle.std.specs.Prelude.{IsTrue, ◌&&◌, Result, Ok, Err, Option, if◌then◌else◌, nat_lt}
 use Rattle.std.proofs.lemmas.Bool.{and_from}
 use Rattle.std.proofs.lemmas.Bool.Decides.{nat_tests}
@@ -11,13 +11,14 @@ use Rattle.size_arith.specs.Shown.{ShownAtLeast, largest}
 use Rattle.size_arith.specs.Decisions.{is_shown, is_same}
 use Rattle.size_arith.proofs.Decisions.{decides_shown, decides_same}
 use Rattle.lift_tree.specs.declared.length.Factor.{Factor}
+use Rattle.lift_tree.specs.declared.term.Operator.{Operator}
 use Rattle.lift_tree.specs.declared.term.UnaryForm.{UnaryForm}
 use Rattle.lift_tree.specs.declared.term.BinaryForm.{BinaryForm}
 use Rattle.lift_tree.specs.declared.term.BinaryForm.TheVariants as binary
 use Rattle.scalar_ops.specs.declared.op.Reducer.{Reducer}
 use Rattle.lift_tree.specs.Limits.{arrays, components}
-use Rattle.lift_tree.specs.Types.{PlainTy, U32, PairOf, ArrayOf, IsElement, is_element}
-use Rattle.lift_tree.specs.Typing.{constant}
+use Rattle.lift_tree.specs.Types.{PlainTy, U32, U32x4, PairOf, ArrayOf, IsElement, is_element}
+use Rattle.lift_tree.specs.Typing.{constant, IsNumeric, is_lane_operator}
 use Rattle.lift_tree.specs.WorkedOut.{factor_monomial}
 use Rattle.pattern_types.specs.declared.refusal.Rule.{Rule}
 use Rattle.pattern_types.specs.declared.refusal.Rule.TheVariants as rule
@@ -26,8 +27,8 @@ use Rattle.pattern_types.specs.declared.refusal.TypeLimit.TheVariants as limit
 use Rattle.pattern_types.specs.declared.fault.Fault.{Fault}
 use Rattle.pattern_types.specs.declared.fault.Fault.TheVariants.{Breaks, Passes}
 use Rattle.pattern_types.specs.Judged as judged
-use Rattle.pattern_types.specs.Judged.{and_then, demand, at_most, counted, faulty, within, product_judged, scalars_judged, number_row, zip_row, reduce_row, binary_row, select_row, element_in, map_end, fold_start, fold_end}
-use Rattle.pattern_types.specs.Refusals.{Any, most, CountsLength, CountsInside, CountsArray, Formed, formed, IsFault, products_along, IsArray, unary_rule, UnaryDemand, unary_formed, unary_lengths, UnaryFault, binary_rule, BinaryDemand, binary_formed, BinaryFault, RuleFault}
+use Rattle.pattern_types.specs.Judged.{and_then, demand, at_most, counted, faulty, within, product_judged, scalars_judged, number_row, numeric_row, lanes_row, operator_row, zip_row, reduce_row, binary_row, select_row, element_in, map_end, fold_start, fold_end}
+use Rattle.pattern_types.specs.Refusals.{Any, most, CountsLength, CountsInside, CountsArray, Formed, formed, IsFault, products_along, IsArray, unary_rule, UnaryDemand, unary_formed, unary_lengths, UnaryFault, OperatorDemand, binary_rule, BinaryDemand, binary_formed, BinaryFault, RuleFault}
 use Rattle.pattern_types.specs.Tests.{is_same_element}
 use Rattle.pattern_types.proofs.Results.{within_ok, demand_ok}
 use Rattle.pattern_types.proofs.Judging.{done}
@@ -84,6 +85,7 @@ within_faults {Q = Q} p k = go (nat_lt 32 (length p)) (nat_lt 4 (degree p)) (nat
 
 scalars_faults : {Q : Fault → Type 0} (names : List Name) (p : List Monomial) (a : PlainTy) → ((l : TypeLimit) (c : ℕ) → most l < c → CountsInside names l c p a → Q (Passes l c)) → Faults Q (scalars_judged names p a)
 scalars_faults names p U32 k = at_most_faults 2147483647 limit.Scalars (largest names p) (λ m. k limit.Scalars (largest names p) m (refl, refl))
+scalars_faults names p U32x4 k = at_most_faults 2147483647 limit.Scalars (4 * largest names p) (λ m. k limit.Scalars (4 * largest names p) m (refl, refl))
 scalars_faults names p (PairOf a b) k =
     faults_then _ (scalars_faults names p a (λ l c m h. k l c m (inl h))) (λ u e. scalars_faults names p b (λ l c m h. k l c m (inr h)))
 scalars_faults {Q = Q} names p (ArrayOf a n) k =
@@ -133,7 +135,33 @@ pub number_faults : {Q : Fault → Type 0} (b : PlainTy) → (¬ (b ≡ U32) →
 number_faults U32 k = none U32
 number_faults _ k = one (Breaks rule.Operator) (k (λ e. absurd (cc)))
 
+pub numeric_faults : {Q : Fault → Type 0} (b : PlainTy) → (¬ IsNumeric b → Q (Breaks rule.Operator)) → Faults Q (numeric_row b)
+numeric_faults U32 k = none U32
+numeric_faults U32x4 k = none U32x4
+numeric_faults (PairOf a b) k = one (Breaks rule.Operator) (k (λ h. h))
+numeric_faults (ArrayOf a n) k = one (Breaks rule.Operator) (k (λ h. h))
+
 -- ---- forms with two children, and select
+no_demand : (o : Operator) (b c : PlainTy) → ¬ ((b ≡ U32) × (c ≡ U32)) → ¬ ((is_lane_operator o ≡ true) × IsNumeric b × IsNumeric c) → ¬ OperatorDemand o b c
+no_demand o b c h k (inl d) = h d
+no_demand o b c h k (inr d) = k d
+
+lanes_faults : (names : List Name) (o : Operator) (b c : PlainTy) → ¬ ((b ≡ U32) × (c ≡ U32)) → Faults (BinaryFault names (binary.Operator o) b c) (lanes_row o)
+lanes_faults names o b c h =
+    faults_then _ (demand_faults (is_lane_operator o) rule.Operator (λ e. inl (refl, no_demand o b c h (λ d. not_false _ d.0 e)))) (λ u e. none U32x4)
+
+operator_faults : (names : List Name) (o : Operator) (b c : PlainTy) → Faults (BinaryFault names (binary.Operator o) b c) (operator_row o b c)
+operator_faults names o U32 U32 = none U32
+operator_faults names o U32 U32x4 = lanes_faults names o U32 U32x4 (λ d. let e = d.1 in cc)
+operator_faults names o U32x4 U32 = lanes_faults names o U32x4 U32 (λ d. let e = d.0 in cc)
+operator_faults names o U32x4 U32x4 = lanes_faults names o U32x4 U32x4 (λ d. let e = d.0 in cc)
+operator_faults names o U32 (PairOf c d) = one (Breaks rule.Operator) (inl (refl, no_demand o _ _ (λ e. let f = e.1 in cc) (λ e. e.2)))
+operator_faults names o U32 (ArrayOf c n) = one (Breaks rule.Operator) (inl (refl, no_demand o _ _ (λ e. let f = e.1 in cc) (λ e. e.2)))
+operator_faults names o U32x4 (PairOf c d) = one (Breaks rule.Operator) (inl (refl, no_demand o _ _ (λ e. let f = e.1 in cc) (λ e. e.2)))
+operator_faults names o U32x4 (ArrayOf c n) = one (Breaks rule.Operator) (inl (refl, no_demand o _ _ (λ e. let f = e.1 in cc) (λ e. e.2)))
+operator_faults names o (PairOf a b) c = one (Breaks rule.Operator) (inl (refl, no_demand o _ _ (λ e. let f = e.0 in cc) (λ e. e.1)))
+operator_faults names o (ArrayOf a n) c = one (Breaks rule.Operator) (inl (refl, no_demand o _ _ (λ e. let f = e.0 in cc) (λ e. e.1)))
+
 zip_faults : (names : List Name) (b c : PlainTy) → IsGood names b → Faults (BinaryFault names binary.Zip b c) (zip_row names b c)
 zip_faults names (ArrayOf x n) (ArrayOf y m) g =
     faults_then _ (demand_faults (is_same n m) rule.Zip (λ e. inl (
@@ -152,8 +180,7 @@ reduce_faults names o (ArrayOf U32 n) U32 = binary_array names (binary.Reduce o)
 reduce_faults names o _ _ = one (Breaks rule.Reduce) (inl (refl, λ d. let e = d.1 in let f = d.2 in absurd (cc)))
 
 pub binary_faults : (names : List Name) (f : BinaryForm) (b c : PlainTy) → IsGood names b → Faults (BinaryFault names f b c) (binary_row names f b c)
-binary_faults names (binary.Operator o) b c g =
-    faults_then _ (number_faults b (λ h. inl (refl, λ d. h d.0))) (λ u e. number_faults c (λ h. inl (refl, λ d. h d.1)))
+binary_faults names (binary.Operator o) b c g = operator_faults names o b c
 binary_faults names binary.Pair b c g =
     faults_then _ (demand_faults (is_element b && is_element c) rule.Pair (λ e. inl (refl, λ d. not_false _ (and_from (is_element b) (is_element c) (element_is b d.0) (element_is c d.1)) e))) (λ u o. none (PairOf b c))
 binary_faults names binary.Zip b c g = zip_faults names b c g
@@ -161,8 +188,8 @@ binary_faults names (binary.Reduce o) b c g = reduce_faults names o b c
 
 pub select_faults : (names : List Name) (a b c : PlainTy) → Faults (RuleFault names rule.Operator ((a ≡ U32) × (b ≡ U32) × (c ≡ U32))) (select_row a b c)
 select_faults names a b c =
-    faults_then _ (faults_then _ (number_faults a (λ h. inl (refl, λ d. h d.0))) (λ u e. number_faults b (λ h. inl (refl, λ d. h d.1)))) (λ u e.
-    number_faults c (λ h. inl (refl, λ d. h d.2)))
+    faults_then _ (number_faults a (λ h. inl (refl, λ d. h d.0))) (λ u e.
+    faults_then _ (number_faults b (λ h. inl (refl, λ d. h d.1))) (λ v f. number_faults c (λ h. inl (refl, λ d. h d.2))))
 
 -- ---- forms with binders
 element_faults : {Q : Fault → Type 0} (r : Rule) (a : PlainTy) → (¬ IsArray a → Q (Breaks r)) → Faults Q (element_in r a)
@@ -184,6 +211,7 @@ fold_start_faults names a s =
 
 same_is : (a : PlainTy) → IsElement a → IsTrue (is_same_element a a)
 same_is U32 h = refl
+same_is U32x4 h = refl
 same_is (PairOf a b) h = and_from (is_same_element a a) (is_same_element b b) (same_is a h.0) (same_is b h.1)
 same_is (ArrayOf a n) h = absurd h
 

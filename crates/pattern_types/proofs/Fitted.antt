@@ -1,6 +1,6 @@
 -- Lengths that are worked out, arrays that are formed, and inputs: what they
 -- are, unless a limit is passed.
-use Rattle.std.proofs.Common.{ℕ, suc, List, [], ◌∷◌, length, refl}
+use Rattle.std.proofs.Common.{ℕ, suc, ◌*◌, List, [], ◌∷◌, length, refl}
 use Rattle.std.specs.Prelude.{Result, Ok, Err, map}
 use Rattle.size_arith.specs.declared.names.Name.{Name}
 use Rattle.size_arith.specs.declared.poly.Monomial.{Monomial}
@@ -15,7 +15,7 @@ use Rattle.lift_tree.specs.InputTypes.{Written}
 use Rattle.lift_tree.specs.Limits.{arrays, components, IsSmall, ProductFits, SumFits, ProductsAreSmall, ScalarsAreFew, ArrayFits, InputFits}
 use Rattle.lift_tree.specs.Lists.{Every}
 use Rattle.lift_tree.specs.Programs.{PlainInput}
-use Rattle.lift_tree.specs.Types.{PlainTy, U32, PairOf, ArrayOf, IsFormed}
+use Rattle.lift_tree.specs.Types.{PlainTy, U32, U32x4, PairOf, ArrayOf, IsFormed}
 use Rattle.lift_tree.specs.Typing.{constant}
 use Rattle.lift_tree.specs.WorkedOut.{factor_monomial, product_of, sum_of, with_part, length_of, worked_out}
 use Rattle.pattern_types.specs.declared.refusal.Rule.TheVariants as rule
@@ -54,11 +54,13 @@ judges_sum names (p ∷ ps) s =
 -- the products are small and the scalars few, in the order in which they are judged
 abbrev ScalarsFit : List Name → List Monomial → PlainTy → Type 0
 ScalarsFit names p U32 = ScalarsAreFew names p U32
+ScalarsFit names p U32x4 = ScalarsAreFew names p U32x4
 ScalarsFit names p (PairOf a b) = ScalarsFit names p a × ScalarsFit names p b
 ScalarsFit names p (ArrayOf a n) = IsSmall (times p n) × ScalarsFit names (times p n) a
 
 parts_fit : (names : List Name) (p : List Monomial) (a : PlainTy) → ScalarsFit names p a → ProductsAreSmall p a × ScalarsAreFew names p a
 parts_fit names p U32 h = (tt, h)
+parts_fit names p U32x4 h = (tt, h)
 parts_fit names p (PairOf a b) h =
     let x = parts_fit names p a h.0 in
     let y = parts_fit names p b h.1 in
@@ -67,11 +69,13 @@ parts_fit names p (ArrayOf a n) h = let x = parts_fit names (times p n) a h.1 in
 
 both_fit : (names : List Name) (p : List Monomial) (a : PlainTy) → ProductsAreSmall p a → ScalarsAreFew names p a → ScalarsFit names p a
 both_fit names p U32 h k = k
+both_fit names p U32x4 h k = k
 both_fit names p (PairOf a b) h k = (both_fit names p a h.0 k.0, both_fit names p b h.1 k.1)
 both_fit names p (ArrayOf a n) h k = (h.0, both_fit names (times p n) a h.1 k)
 
 judges_scalars : (names : List Name) (p : List Monomial) (a : PlainTy) → Judges itself (ScalarsFit names p a) done (scalars_judged names p a)
 judges_scalars names p U32 = judges_at_most 2147483647 limit.Scalars (largest names p)
+judges_scalars names p U32x4 = judges_at_most 2147483647 limit.Scalars (4 * largest names p)
 judges_scalars names p (PairOf a b) = judges_then _ (judges_scalars names p a) (λ e w. judges_scalars names p b)
 judges_scalars names p (ArrayOf a n) = judges_then _ (judges_within (times p n)) (λ e w. judges_scalars names (times p n) a)
 

@@ -8,15 +8,16 @@ use Rattle.size_arith.specs.declared.poly.Monomial.{Monomial}
 use Rattle.size_arith.specs.Polynomial.{is_zero, on, AllDivide, quotient}
 use Rattle.size_arith.specs.Decisions.{is_same}
 use Rattle.size_arith.proofs.Decisions.{decides_same}
+use Rattle.lift_tree.specs.declared.term.Operator.{Operator}
 use Rattle.lift_tree.specs.declared.term.UnaryForm.{UnaryForm}
 use Rattle.lift_tree.specs.declared.term.BinaryForm.{BinaryForm}
 use Rattle.lift_tree.specs.declared.term.BinaryForm.TheVariants as binary
-use Rattle.lift_tree.specs.Types.{PlainTy, U32, PairOf, ArrayOf, IsElement, IsFormed, is_element}
-use Rattle.lift_tree.specs.Typing.{constant, BinaryRow}
+use Rattle.lift_tree.specs.Types.{PlainTy, U32, U32x4, PairOf, ArrayOf, IsElement, IsFormed, is_element}
+use Rattle.lift_tree.specs.Typing.{constant, OperatorRow, BinaryRow, is_lane_operator}
 use Rattle.pattern_types.specs.declared.refusal.Rule.TheVariants as rule
 use Rattle.pattern_types.specs.declared.fault.Fault.{Fault}
 use Rattle.pattern_types.specs.Tests.{exact_quotient, all_divide}
-use Rattle.pattern_types.specs.Judged.{unary_row, operator_row, zip_row, reduce_row, binary_row}
+use Rattle.pattern_types.specs.Judged.{unary_row, lanes_row, operator_row, zip_row, reduce_row, binary_row}
 use Rattle.lift_tree.specs.Limits.{ArrayFits, OuterFits, UnaryFits}
 use Rattle.pattern_types.proofs.Table.{IsGood, constant_low}
 use Rattle.pattern_types.proofs.Tried.{decides_all_divide}
@@ -51,17 +52,25 @@ At names f b a = IsFormed names a → Judges itself (UnaryFits names f b) a (una
 -- ---- forms with two children
 pub element_is : (a : PlainTy) → IsElement a → IsTrue (is_element a)
 element_is U32 h = refl
+element_is U32x4 h = refl
 element_is (PairOf a b) h = and_from (is_element a) (is_element b) (element_is a h.0) (element_is b h.1)
 element_is (ArrayOf a n) h = absurd h
 
 abbrev Gives : List Name → PlainTy → Result PlainTy Fault → Type 0
 Gives names a r = IsFormed names a → Judges itself (OuterFits names a) a r
 
-pub judges_operator : (b c : PlainTy) → b ≡ U32 → c ≡ U32 → Judges itself (Unit {0}) U32 (operator_row b c)
-judges_operator b c e f = subst (λ z. Judges itself (Unit {0}) U32 (operator_row z c)) (sym e) (subst (λ z. Judges itself (Unit {0}) U32 (operator_row U32 z)) (sym f) (answers refl))
+judges_lanes : (names : List Name) (o : Operator) (a : PlainTy) → (is_lane_operator o ≡ true) × (a ≡ U32x4) → Judges itself (OuterFits names a) a (lanes_row o)
+judges_lanes names o a r = subst (λ z. Judges itself (OuterFits names z) z (lanes_row o)) (sym r.1) (judges_demand (is_lane_operator o) rule.Operator _ r.0 (answers refl))
+
+judges_operator : (names : List Name) (o : Operator) (b c a : PlainTy) → OperatorRow o b c a → Judges itself (OuterFits names a) a (operator_row o b c)
+judges_operator names o U32 U32 a r = subst (λ z. Judges itself (OuterFits names z) z (operator_row o U32 U32)) (sym r) (answers refl)
+judges_operator names o U32 U32x4 a r = judges_lanes names o a r
+judges_operator names o U32x4 U32 a r = judges_lanes names o a r
+judges_operator names o U32x4 U32x4 a r = judges_lanes names o a r
+judges_operator names o _ _ a r = absurd r
 
 pub judges_binary : (names : List Name) (f : BinaryForm) (b c a : PlainTy) → BinaryRow f b c a → IsGood names b → Gives names a (binary_row names f b c)
-judges_binary names (binary.Operator o) b c a r g = subst (λ z. Gives names z (operator_row b c)) (sym r.2) (λ h. judges_operator b c r.0 r.1)
+judges_binary names (binary.Operator o) b c a r g = λ h. judges_operator names o b c a r
 judges_binary names binary.Pair b c a r g =
     subst (λ z. Gives names z (binary_row names binary.Pair b c)) (sym r.2) (λ h. judges_demand (is_element b && is_element c) rule.Pair _ (and_from (is_element b) (is_element c) (element_is b r.0) (element_is c r.1)) (answers refl))
 judges_binary names binary.Zip b c a r g =

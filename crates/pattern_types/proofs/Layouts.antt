@@ -1,22 +1,22 @@
 -- What each layout adds to the proofs of the table: its row is the typing relation's, answers where
 -- the relation has it, and is refused by its rule, or by an array or a length that it makes.
-use Rattle.std.proofs.Common.{◌≡◌, List, refl, sym, ap, ◌∙◌, subst, Some, None, inl, inr}
+use Rattle.std.proofs.Common.{◌≡◌, List, refl, sym, ap, ◌∙◌, subst, pos, Some, None, inl, inr}
 use Rattle.std.specs.Prelude.{Ok, Option}
 use Rattle.size_arith.specs.declared.names.Name.{Name}
 use Rattle.size_arith.specs.declared.poly.Monomial.{Monomial}
-use Rattle.size_arith.specs.Polynomial.{of_monomial, times, quotient, AllLow, AllDivide}
+use Rattle.size_arith.specs.Polynomial.{no_powers, number, of_monomial, times, quotient, AllLow, AllDivide}
 use Rattle.lift_tree.specs.declared.length.Factor.{Factor}
 use Rattle.lift_tree.specs.declared.layout.Layout as layout
-use Rattle.lift_tree.specs.declared.layout.Layout.TheVariants.{Join, Transpose, Split, Reverse, Stride}
+use Rattle.lift_tree.specs.declared.layout.Layout.TheVariants.{Join, Transpose, Split, Reverse, Stride, AsVector, AsScalar}
 use Rattle.lift_tree.specs.declared.term.UnaryForm.TheVariants.{Layout}
-use Rattle.lift_tree.specs.Types.{PlainTy, ArrayOf, IsFormed}
+use Rattle.lift_tree.specs.Types.{PlainTy, U32, U32x4, ArrayOf, IsFormed}
 use Rattle.lift_tree.specs.WorkedOut.{product_of}
 use Rattle.lift_tree.specs.Typing.{constant, LayoutRow}
 use Rattle.lift_tree.specs.Limits.{ArrayFits, UnaryFits}
 use Rattle.pattern_types.specs.declared.refusal.Rule.TheVariants as rule
 use Rattle.pattern_types.specs.declared.fault.Fault.TheVariants.{Breaks}
 use Rattle.pattern_types.specs.Judged as judged
-use Rattle.pattern_types.specs.Judged.{within, product_judged, formed, unary_row, layout_row, split_row, pieces_row, reverse_row, stride_row, strided_row}
+use Rattle.pattern_types.specs.Judged.{within, product_judged, formed, unary_row, layout_row, split_row, pieces_row, reverse_row, stride_row, strided_row, vectors_row, as_vector_row, as_scalar_row}
 use Rattle.pattern_types.specs.Refusals.{IsDivided, UnaryFault}
 use Rattle.pattern_types.specs.Tests.{exact_quotient}
 use Rattle.pattern_types.proofs.Results.{and_ok, within_ok}
@@ -50,6 +50,13 @@ strided_right names fs x a n m g e (Some q) f h =
     let i = same_ok (ArrayOf x n) a h in
     ((x, n, refl, d.0, sym i), subst (IsGood names) i g)
 
+vectors_right : (names : List Name) (a : PlainTy) (n : List Monomial) → IsGood names (ArrayOf U32 n) → (q : Option (List Monomial)) → exact_quotient (constant 4) n ≡ q → vectors_row names q ≡ Ok a → Right names (Layout AsVector) (ArrayOf U32 n) a
+vectors_right names a n g None e h = absurd (cc)
+vectors_right names a n g (Some q) e h =
+    let d = table.exact_on (pos 4) no_powers n q e in
+    let s = formed_right names U32x4 a q tt (subst (AllLow 4) (sym d.1) (quotient_low (number (pos 4)) n d.0 g.1)) h in
+    ((n, refl, d.0, s.0 ∙ ap (λ z. ArrayOf U32x4 z) d.1, good_formed names a s.1), s.1)
+
 pub layout_right : (names : List Name) (l : layout.Layout) (b a : PlainTy) → IsGood names b → layout_row names l b ≡ Ok a → Right names (Layout l) b a
 layout_right names Join (ArrayOf (ArrayOf x m) n) a g h =
     let p = and_ok (within (times n m)) (λ l. formed names x l) a h in
@@ -81,6 +88,14 @@ layout_right names (Stride fs) b a g h =
     go : (b : PlainTy) (m : List Monomial) → IsGood names b → m ≡ of_monomial (product_of names fs) → stride_row m b ≡ Ok a → Right names (Layout (Stride fs)) b a
     go (ArrayOf x n) m g e h = strided_right names fs x a n m g e (exact_quotient m n) refl h
     go _ m g e h = absurd (cc)
+layout_right names AsVector (ArrayOf U32 n) a g h = vectors_right names a n g (exact_quotient (constant 4) n) refl h
+layout_right names AsVector _ a g h = absurd (cc)
+layout_right names AsScalar (ArrayOf U32x4 n) a g h =
+    let p = and_ok (within (times n (constant 4))) (λ l. formed names U32 l) a h in
+    let w = within_ok (times n (constant 4)) p.0 p.1 in
+    let f = formed_right names U32 a p.0 tt w.1 p.2 in
+    ((n, refl, f.0 ∙ ap (λ y. ArrayOf U32 y) (sym w.0), good_formed names a f.1), f.1)
+layout_right names AsScalar _ a g h = absurd (cc)
 
 -- ---- the row answers, unless a limit is passed
 judges_split : (names : List Name) (fs : List Factor) (x : PlainTy) (n : List Monomial) → IsGood names (ArrayOf x n) → AllDivide (product_of names fs) n
@@ -120,6 +135,18 @@ judges_layout names Reverse b a r g o = subst (λ z. Judges itself (Unit {0}) a 
 judges_layout names (Stride fs) b a r g o =
     subst (λ z. Judges itself (UnaryFits names (Layout (Stride fs)) z) a (unary_row names (Layout (Stride fs)) z)) (sym r.2)
     (judges_stride names fs r.0 a r.1 (subst (IsGood names) r.2 g) r.3 (sym r.4))
+judges_layout names AsVector b a r g o =
+    let n = r.0 in
+    let q = quotient (number (pos 4)) n in
+    subst (λ z. Judges itself (UnaryFits names (Layout AsVector) z) a (unary_row names (Layout AsVector) z)) (sym r.1)
+    (subst (λ z. At names (Layout AsVector) (ArrayOf U32 n) z) (sym r.3) (λ f.
+    subst (λ z. Judges itself (ArrayFits names U32x4 q) (ArrayOf U32x4 q) (vectors_row names z)) (sym (forms.exact_on (pos 4) no_powers n refl r.2))
+    (judges_formed names U32x4 q (quotient_low (number (pos 4)) n r.2 (subst (IsGood names) r.1 g).1) f.0)) o)
+judges_layout names AsScalar b a r g o =
+    let k = times r.0 (constant 4) in
+    subst (λ z. Judges itself (UnaryFits names (Layout AsScalar) z) a (unary_row names (Layout AsScalar) z)) (sym r.1)
+    (subst (λ z. At names (Layout AsScalar) (ArrayOf U32x4 r.0) z) (sym r.2) (λ f.
+    judges_then _ (judges_within k) (λ e w. judges_formed names U32 k (low_small k w) f.0)) o)
 
 -- ---- a fault of the row
 join_faults : (names : List Name) (b : PlainTy) → Faults (UnaryFault names (Layout Join) b) (unary_row names (Layout Join) b)
@@ -179,6 +206,35 @@ stride_faults : (names : List Name) (fs : List Factor) (b : PlainTy) → IsGood 
 stride_faults names fs (ArrayOf x n) g = strided_faults names fs x n g (exact_quotient (of_monomial (product_of names fs)) n) refl
 stride_faults names fs _ g = one (Breaks rule.Stride) (inl (refl, λ d. let e = d.2 in absurd (cc)))
 
+vectors_faults : (names : List Name) (n : List Monomial) → IsGood names (ArrayOf U32 n) → (q : Option (List Monomial)) → exact_quotient (constant 4) n ≡ q
+    → Faults (UnaryFault names (Layout AsVector) (ArrayOf U32 n)) (vectors_row names q)
+vectors_faults names n g None f =
+    one (Breaks rule.Split) (inl (
+      refl,
+      λ d.
+          let s = same_array U32 U32 n d.0 d.1 in
+          let a : AllDivide (number (pos 4)) n = subst (AllDivide (number (pos 4))) (sym s.1) d.2 in
+          let z = sym f ∙ forms.exact_on (pos 4) no_powers n refl a in
+          absurd (cc),
+    ))
+vectors_faults names n g (Some q) f =
+    let d = table.exact_on (pos 4) no_powers n q f in
+    subst (λ z. Faults (UnaryFault names (Layout AsVector) (ArrayOf U32 n)) (judged.formed names U32x4 z)) (sym d.1)
+    (unary_array names (Layout AsVector) (ArrayOf U32 n) U32x4 (quotient (number (pos 4)) n) (quotient_low (number (pos 4)) n d.0 g.1) (n, refl, d.0) (λ P h. inl h))
+
+as_vector_faults : (names : List Name) (b : PlainTy) → IsGood names b → Faults (UnaryFault names (Layout AsVector) b) (as_vector_row names b)
+as_vector_faults names (ArrayOf U32 n) g = vectors_faults names n g (exact_quotient (constant 4) n) refl
+as_vector_faults names _ g = one (Breaks rule.Split) (inl (refl, λ d. let e = d.1 in absurd (cc)))
+
+as_scalar_faults : (names : List Name) (b : PlainTy) → Faults (UnaryFault names (Layout AsScalar) b) (as_scalar_row names b)
+as_scalar_faults names (ArrayOf U32x4 n) =
+    let k = times n (constant 4) in
+    faults_then _ (unary_length names (Layout AsScalar) (ArrayOf U32x4 n) k (λ P h. inl h)) (λ i u.
+    let w = within_ok k i u in
+    subst (λ y. Faults (UnaryFault names (Layout AsScalar) (ArrayOf U32x4 n)) (judged.formed names U32 y)) w.0
+    (unary_array names (Layout AsScalar) (ArrayOf U32x4 n) U32 k (subst (AllLow 4) (sym w.0) w.1) (n, refl) (λ P h. inl h)))
+as_scalar_faults names _ = one (Breaks rule.Join) (inl (refl, λ d. let e = d.1 in absurd (cc)))
+
 pub layout_faults : (names : List Name) (l : layout.Layout) (b : PlainTy) → IsGood names b → Faults (UnaryFault names (Layout l) b) (layout_row names l b)
 layout_faults names Join b g = join_faults names b
 layout_faults names Transpose b g = transpose_faults names b g
@@ -191,3 +247,5 @@ layout_faults names (Stride fs) b g =
     faults_then _ (product_faults names (constant 1) fs (λ l c m h. (m, inr h))) (λ m e.
     let r = product_right names fs m e in
     subst (λ y. Faults (UnaryFault names (Layout (Stride fs)) b) (stride_row y b)) (sym r.0) (stride_faults names fs b g))
+layout_faults names AsVector b g = as_vector_faults names b g
+layout_faults names AsScalar b g = as_scalar_faults names b

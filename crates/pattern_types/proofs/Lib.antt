@@ -1,5 +1,6 @@
 pub mod Counted
 pub mod Faults
+pub mod Fours
 pub mod Fitted
 pub mod Forms
 pub mod Inputs

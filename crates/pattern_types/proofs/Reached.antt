@@ -5,7 +5,7 @@ use Rattle.std.proofs.lemmas.Bool.{and_from}
 use Rattle.size_arith.specs.declared.names.Name.{Name}
 use Rattle.size_arith.specs.declared.poly.Monomial.{Monomial}
 use Rattle.lift_tree.specs.Tree.{Tree, Variable, Number, Input, Unary, Binary, Select, Let, Map, Fold}
-use Rattle.lift_tree.specs.Types.{PlainTy, U32, PairOf, ArrayOf, IsElement, HoldsElements, IsOutput, IsFormed, is_element, holds_elements}
+use Rattle.lift_tree.specs.Types.{PlainTy, U32, U32x4, PairOf, ArrayOf, IsElement, AreNumbers, HoldsElements, IsOutput, IsFormed, is_element, are_numbers, holds_elements}
 use Rattle.lift_tree.specs.Typing.{Declared, constant, declared_by, HasOutput}
 use Rattle.lift_tree.specs.WorkedOut.{range_of, worked_out}
 use Rattle.lift_tree.specs.Programs.{PlainInput, PlainProgram}
@@ -61,6 +61,7 @@ judges_start a s x l e h =
 
 same_is : (a : PlainTy) → IsElement a → IsTrue (is_same_element a a)
 same_is U32 h = refl
+same_is U32x4 h = refl
 same_is (PairOf a b) h = and_from (is_same_element a a) (is_same_element b b) (same_is a h.0) (same_is b h.1)
 same_is (ArrayOf a n) h = absurd h
 
@@ -122,13 +123,21 @@ module _ (d : Declared) (good : Every (IsGood d.names) d.inputs) where
   judging g _ _ e f b h = absurd h
 
 -- ---- programs
+numbers_are : (a : PlainTy) → AreNumbers a → IsTrue (are_numbers a)
+numbers_are U32 h = refl
+numbers_are U32x4 h = absurd h
+numbers_are (PairOf a b) h = and_from (are_numbers a) (are_numbers b) (numbers_are a h.0) (numbers_are b h.1)
+numbers_are (ArrayOf a n) h = absurd h
+
 holds_is : (a : PlainTy) → HoldsElements a → IsTrue (holds_elements a)
 holds_is U32 h = refl
-holds_is (PairOf a b) h = and_from (is_element a) (is_element b) (element_is a h.0) (element_is b h.1)
+holds_is U32x4 h = refl
+holds_is (PairOf a b) h = and_from (are_numbers a) (are_numbers b) (numbers_are a h.0) (numbers_are b h.1)
 holds_is (ArrayOf a n) h = holds_is a h
 
 pub output_is : (a : PlainTy) → IsOutput a → IsTrue (is_output a)
 output_is U32 h = absurd h
+output_is U32x4 h = absurd h
 output_is (PairOf a b) h = absurd h
 output_is (ArrayOf a n) h = holds_is a h
 

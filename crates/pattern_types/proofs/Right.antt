@@ -4,7 +4,7 @@ use Rattle.std.specs.Prelude.{Ok, slice_get}
 use Rattle.size_arith.specs.declared.names.Name.{Name}
 use Rattle.size_arith.specs.declared.poly.Monomial.{Monomial}
 use Rattle.lift_tree.specs.Tree.{Tree, Variable, Number, Input, Unary, Binary, Select, Let, Map, Fold}
-use Rattle.lift_tree.specs.Types.{PlainTy, U32, PairOf, ArrayOf, IsElement, is_element}
+use Rattle.lift_tree.specs.Types.{PlainTy, U32, U32x4, PairOf, ArrayOf, IsElement, is_element}
 use Rattle.lift_tree.specs.Typing.{Declared, constant}
 use Rattle.lift_tree.specs.Lists.{Every}
 use Rattle.lift_tree.specs.Annotations.{Annotation, Leaf, One, Two, Three, type_in, Annotates}
@@ -16,7 +16,7 @@ use Rattle.lift_tree.specs.Belonging.{Belongs}
 use Rattle.pattern_types.specs.Numbers.{NumbersFit}
 use Rattle.pattern_types.specs.Scopes.{nth_type}
 use Rattle.pattern_types.specs.Tests.{is_same_element}
-use Rattle.pattern_types.specs.Judged.{and_then, demand, here, under, unary_row, binary_row, select_row, operator_row, number_row, element_in, map_end, fold_start, fold_end, judged}
+use Rattle.pattern_types.specs.Judged.{and_then, demand, here, under, unary_row, binary_row, select_row, number_row, element_in, map_end, fold_start, fold_end, judged}
 use Rattle.pattern_types.proofs.Results.{yes, and_ok, demand_ok, here_ok, under_ok}
 use Rattle.pattern_types.proofs.Unary.{unary_right}
 use Rattle.pattern_types.proofs.Table.{IsGood, formed_right, binary_right, number_right, constant_low, is_element_so, same_element}
@@ -39,15 +39,16 @@ Right d g t n = Annotates d g t n × IsGood d.names (type_in n)
 
 select_right : (a b c z : PlainTy) → select_row a b c ≡ Ok z → (a ≡ U32) × (b ≡ U32) × (c ≡ U32) × (z ≡ U32)
 select_right a b c z h =
-    let p = and_ok (operator_row a b) (λ _. number_row c) z h in
-    let q = and_ok (number_row a) (λ _. number_row b) p.0 p.1 in
-    let x = number_right a q.0 q.1 in
-    let y = number_right b p.0 q.2 in
-    let w = number_right c z p.2 in
+    let p = and_ok (number_row a) (λ _. and_then (number_row b) (λ _. number_row c)) z h in
+    let q = and_ok (number_row b) (λ _. number_row c) z p.2 in
+    let x = number_right a p.0 p.1 in
+    let y = number_right b q.0 q.1 in
+    let w = number_right c z q.2 in
     (x.0, y.0, w.0, w.1)
 
 pub element_right : (r : Rule) (a x : PlainTy) → element_in r a ≡ Ok x → (l : List Monomial) × (a ≡ ArrayOf x l)
 element_right r U32 x h = absurd (cc)
+element_right r U32x4 x h = absurd (cc)
 element_right r (PairOf a b) x h = absurd (cc)
 element_right r (ArrayOf a n) x h = (n, let e : a ≡ x = cc in ap (λ z. ArrayOf z n) e)
 

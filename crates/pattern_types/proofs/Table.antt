@@ -9,28 +9,31 @@ use Rattle.size_arith.specs.Polynomial.{total, less_powers, on, AllLow, AtMost, 
 use Rattle.size_arith.specs.Shown.{ShownAtLeast}
 use Rattle.size_arith.specs.Decisions.{is_shown, is_same}
 use Rattle.size_arith.proofs.Decisions.{decides_shown, decides_same}
+use Rattle.lift_tree.specs.declared.term.Operator.{Operator}
 use Rattle.lift_tree.specs.declared.term.UnaryForm.{UnaryForm}
 use Rattle.lift_tree.specs.declared.term.BinaryForm.{BinaryForm}
 use Rattle.lift_tree.specs.declared.term.BinaryForm.TheVariants as binary
-use Rattle.lift_tree.specs.Types.{PlainTy, U32, PairOf, ArrayOf, IsElement, IsFormed, is_element}
-use Rattle.lift_tree.specs.Typing.{constant, UnaryRow, BinaryRow}
+use Rattle.lift_tree.specs.Types.{PlainTy, U32, U32x4, PairOf, ArrayOf, IsElement, IsFormed, is_element}
+use Rattle.lift_tree.specs.Typing.{constant, IsNumeric, OperatorRow, UnaryRow, BinaryRow, is_lane_operator}
 use Rattle.lift_tree.specs.Limits.{arrays, components}
 use Rattle.pattern_types.specs.declared.refusal.Rule.TheVariants as rule
 use Rattle.pattern_types.specs.declared.refusal.TypeLimit.TheVariants as limit
 use Rattle.pattern_types.specs.declared.fault.Fault.{Fault}
 use Rattle.pattern_types.specs.Tests.{exact_quotient, all_divide, is_same_element}
-use Rattle.pattern_types.specs.Judged.{demand, at_most, counted, formed, scalars_judged, binary_row, number_row, zip_row, reduce_row}
+use Rattle.pattern_types.specs.Judged.{demand, at_most, counted, formed, scalars_judged, binary_row, number_row, numeric_row, lanes_row, operator_row, zip_row, reduce_row}
 use Rattle.pattern_types.proofs.Results.{yes, and_ok, demand_ok}
 use Rattle.pattern_types.proofs.Tried.{decides_all_divide}
 
 -- formed, and each length of a degree of at most 4
 abbrev pub IsGood : List Name → PlainTy → Type 0
 IsGood names U32 = Unit {0}
+IsGood names U32x4 = Unit {0}
 IsGood names (PairOf a b) = IsGood names a × IsGood names b
 IsGood names (ArrayOf a n) = ShownAtLeast 1 names n × AllLow 4 n × IsGood names a
 
 pub good_formed : (names : List Name) (a : PlainTy) → IsGood names a → IsFormed names a
 good_formed names U32 h = tt
+good_formed names U32x4 h = tt
 good_formed names (PairOf a b) h = (good_formed names a h.0, good_formed names b h.1)
 good_formed names (ArrayOf a n) h = (h.0, good_formed names a h.2)
 
@@ -85,14 +88,35 @@ pub number_right : (b a : PlainTy) → number_row b ≡ Ok a → (b ≡ U32) × 
 number_right U32 a h = (refl, sym (same_ok U32 a h))
 number_right _ a h = absurd (cc)
 
+pub numeric_right : (names : List Name) (b a : PlainTy) → numeric_row b ≡ Ok a → IsNumeric b × (a ≡ b) × IsGood names a
+numeric_right names U32 a h = let e = same_ok U32 a h in (tt, sym e, subst (IsGood names) e tt)
+numeric_right names U32x4 a h = let e = same_ok U32x4 a h in (tt, sym e, subst (IsGood names) e tt)
+numeric_right names (PairOf b c) a h = absurd (cc)
+numeric_right names (ArrayOf b n) a h = absurd (cc)
+
+lanes_right : (names : List Name) (o : Operator) (a : PlainTy) → lanes_row o ≡ Ok a → ((is_lane_operator o ≡ true) × (a ≡ U32x4)) × IsGood names a
+lanes_right names o a h =
+    let p = and_ok (demand (is_lane_operator o) rule.Operator) (λ _. Ok U32x4) a h in
+    let e = same_ok U32x4 a p.2 in
+    ((demand_ok _ _ p.0 p.1, sym e), subst (IsGood names) e tt)
+
+operator_right : (names : List Name) (o : Operator) (b c a : PlainTy) → operator_row o b c ≡ Ok a → OperatorRow o b c a × IsGood names a
+operator_right names o U32 U32 a h = let e = same_ok U32 a h in (sym e, subst (IsGood names) e tt)
+operator_right names o U32 U32x4 a h = lanes_right names o a h
+operator_right names o U32x4 U32 a h = lanes_right names o a h
+operator_right names o U32x4 U32x4 a h = lanes_right names o a h
+operator_right names o _ _ a h = absurd (cc)
+
 -- ---- pairs of types
 pub is_element_so : (a : PlainTy) → IsTrue (is_element a) → IsElement a
 is_element_so U32 h = tt
+is_element_so U32x4 h = tt
 is_element_so (PairOf a b) h = let p = and_parts (is_element a) (is_element b) h in (is_element_so a p.0, is_element_so b p.1)
 is_element_so (ArrayOf a n) h = absurd (cc)
 
 pub same_element : (a b : PlainTy) → IsTrue (is_same_element a b) → a ≡ b
 same_element U32 U32 h = refl
+same_element U32x4 U32x4 h = refl
 same_element (PairOf a b) (PairOf c d) h =
     let p = and_parts (is_same_element a c) (is_same_element b d) h in
     ap (λ z. PairOf z b) (same_element a c p.0) ∙ ap (λ z. PairOf c z) (same_element b d p.1)
@@ -111,11 +135,7 @@ reduce_right names (ArrayOf U32 n) U32 a h = let f = formed_right names U32 a (c
 reduce_right names _ _ a h = absurd (cc)
 
 pub binary_right : (names : List Name) (f : BinaryForm) (b c a : PlainTy) → IsGood names b → IsGood names c → binary_row names f b c ≡ Ok a → BinaryRow f b c a × IsGood names a
-binary_right names (binary.Operator o) b c a g k h =
-    let p = and_ok (number_row b) (λ _. number_row c) a h in
-    let x = number_right b p.0 p.1 in
-    let y = number_right c a p.2 in
-    ((x.0, y.0, y.1), subst (IsGood names) (sym y.1) tt)
+binary_right names (binary.Operator o) b c a g k h = operator_right names o b c a h
 binary_right names binary.Pair b c a g k h =
     let p = and_ok (demand (is_element b && is_element c) rule.Pair) (λ _. Ok (PairOf b c)) a h in
     let e = and_parts (is_element b) (is_element c) (demand_ok _ _ p.0 p.1) in

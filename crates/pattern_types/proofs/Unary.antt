@@ -11,7 +11,7 @@ use Rattle.size_arith.proofs.Decisions.{decides_shown}
 use Rattle.lift_tree.specs.declared.term.UnaryForm.{UnaryForm}
 use Rattle.lift_tree.specs.declared.term.UnaryForm.TheVariants.{Div, Rem, First, Second, Layout, Slide, Pad}
 use Rattle.lift_tree.specs.Belonging.{FormIsNamed}
-use Rattle.lift_tree.specs.Types.{PlainTy, U32, PairOf, ArrayOf, IsFormed}
+use Rattle.lift_tree.specs.Types.{PlainTy, U32, U32x4, PairOf, ArrayOf, IsFormed}
 use Rattle.lift_tree.specs.Typing.{constant, UnaryRow}
 use Rattle.lift_tree.specs.Limits.{IsSmall, ArrayFits, UnaryFits}
 use Rattle.pattern_types.specs.declared.refusal.Rule.TheVariants as rule
@@ -24,10 +24,10 @@ use Rattle.pattern_types.proofs.Results.{and_ok, within_ok, demand_ok}
 use Rattle.pattern_types.proofs.Judging.{Judges, itself, answers, judges_then, judges_three, judges_four, judges_demand, judges_within, low_small}
 use Rattle.pattern_types.proofs.Fitted.{judges_formed}
 use Rattle.pattern_types.proofs.Table as table
-use Rattle.pattern_types.proofs.Table.{IsGood, good_formed, formed_right, constant_low, Right, same_ok, number_right}
+use Rattle.pattern_types.proofs.Table.{IsGood, good_formed, formed_right, constant_low, Right, same_ok, numeric_right}
 use Rattle.pattern_types.proofs.Forms as forms
 use Rattle.pattern_types.proofs.Forms.{At, above_zero, same_array}
-use Rattle.pattern_types.proofs.Faults.{Faults, none, one, faults_then, demand_faults, number_faults, not_false, unary_array, unary_length}
+use Rattle.pattern_types.proofs.Faults.{Faults, none, one, faults_then, demand_faults, numeric_faults, not_false, unary_array, unary_length}
 use Rattle.pattern_types.proofs.Layouts.{layout_right, judges_layout, layout_faults}
 
 -- ---- the row is the typing relation's
@@ -45,8 +45,8 @@ slide_right names s t x a n left j g w z (Some q) f h =
     ((x, n, refl, j, subst (ShownAtLeast 0 names) (sym w.0) z, subst (AllDivide (number (pos t))) (sym w.0) d.0, i, good_formed names a k.1), k.1)
 
 pub unary_right : (names : List Name) (size : ℕ) (f : UnaryForm) (b a : PlainTy) → FormIsNamed size f → IsGood names b → unary_row names f b ≡ Ok a → Right names f b a
-unary_right names z (Div n) b a i g h = let r = number_right b a h in ((i, r.0, r.1), subst (IsGood names) (sym r.1) tt)
-unary_right names z (Rem n) b a i g h = let r = number_right b a h in ((i, r.0, r.1), subst (IsGood names) (sym r.1) tt)
+unary_right names z (Div n) b a i g h = let r = numeric_right names b a h in ((i, r.0, r.1), r.2)
+unary_right names z (Rem n) b a i g h = let r = numeric_right names b a h in ((i, r.0, r.1), r.2)
 unary_right names z First (PairOf b c) a i g h = let e = same_ok b a h in ((c, ap (λ x. PairOf x c) e), subst (IsGood names) e g.0)
 unary_right names z First _ a i g h = absurd (cc)
 unary_right names z Second (PairOf b c) a i g h = let e = same_ok c a h in ((b, ap (λ x. PairOf b x) e), subst (IsGood names) e g.1)
@@ -95,9 +95,13 @@ judges_pad names l r x n o =
 
 pub judges_unary : (names : List Name) (f : UnaryForm) (b a : PlainTy) → UnaryRow names f b a → IsGood names b → At names f b a
 judges_unary names (Div n) U32 a r g o = answers (sym r.2)
-judges_unary names (Div n) _ a r g o = absurd (let e = r.1 in cc)
+judges_unary names (Div n) U32x4 a r g o = answers (sym r.2)
+judges_unary names (Div n) (PairOf b c) a r g o = absurd r.1
+judges_unary names (Div n) (ArrayOf b l) a r g o = absurd r.1
 judges_unary names (Rem n) U32 a r g o = answers (sym r.2)
-judges_unary names (Rem n) _ a r g o = absurd (let e = r.1 in cc)
+judges_unary names (Rem n) U32x4 a r g o = answers (sym r.2)
+judges_unary names (Rem n) (PairOf b c) a r g o = absurd r.1
+judges_unary names (Rem n) (ArrayOf b l) a r g o = absurd r.1
 judges_unary names First (PairOf b c) a r g o = answers (first_is b c a r.0 r.1).0
 judges_unary names First _ a r g o = absurd (let e = r.1 in cc)
 judges_unary names Second (PairOf b c) a r g o = answers (first_is b c r.0 a r.1).1
@@ -165,8 +169,8 @@ pad_faults names l r x n =
     subst (λ y. Faults Q (judged.formed names x y)) w.0 (unary_array names (Pad l r) (ArrayOf x n) x k (subst (AllLow 4) (sym w.0) w.1) (x, n, refl) (λ P h. inl h)))))
 
 pub unary_faults : (names : List Name) (size : ℕ) (f : UnaryForm) (b : PlainTy) → FormIsNamed size f → IsGood names b → Faults (UnaryFault names f b) (unary_row names f b)
-unary_faults names z (Div n) b i g = number_faults b (λ h. inl (refl, h))
-unary_faults names z (Rem n) b i g = number_faults b (λ h. inl (refl, h))
+unary_faults names z (Div n) b i g = numeric_faults b (λ h. inl (refl, h))
+unary_faults names z (Rem n) b i g = numeric_faults b (λ h. inl (refl, h))
 unary_faults names z First (PairOf a b) i g = none a
 unary_faults names z First _ i g = one (Breaks rule.Project) (inl (refl, λ d. let e = d.2 in absurd (cc)))
 unary_faults names z Second (PairOf a b) i g = none b

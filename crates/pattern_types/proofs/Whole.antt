@@ -6,7 +6,7 @@ use Rattle.size_arith.specs.declared.names.Name.{Name}
 use Rattle.size_arith.specs.Ranges.{AreNames}
 use Rattle.lift_tree.specs.InputTypes as written
 use Rattle.lift_tree.specs.InputTypes.{Written}
-use Rattle.lift_tree.specs.Types.{PlainTy, U32, PairOf, ArrayOf, IsElement, HoldsElements, IsInput, IsOutput, IsFormed, is_element, holds_elements}
+use Rattle.lift_tree.specs.Types.{PlainTy, U32, U32x4, PairOf, ArrayOf, AreNumbers, HoldsElements, IsInput, IsOutput, IsFormed, are_numbers, holds_elements}
 use Rattle.lift_tree.specs.Typing.{Declared, declared_by, IsDeclared}
 use Rattle.lift_tree.specs.WorkedOut.{range_of, worked_out}
 use Rattle.lift_tree.specs.Programs.{PlainInput, PlainProgram}
@@ -20,7 +20,7 @@ use Rattle.pattern_types.specs.Tests.{is_output}
 use Rattle.pattern_types.specs.Judged.{demand, here, at_node, judged, inputs_judged, output_judged}
 use Rattle.pattern_types.specs.Judgement.{JudgedTypesAreRight}
 use Rattle.pattern_types.proofs.Results.{yes, and_ok, demand_ok, here_ok}
-use Rattle.pattern_types.proofs.Table.{IsGood, good_formed, is_element_so}
+use Rattle.pattern_types.proofs.Table.{IsGood, good_formed}
 use Rattle.pattern_types.proofs.Right.{judged_right}
 use Rattle.pattern_types.proofs.Inputs.{inputs_right}
 
@@ -31,13 +31,21 @@ at_node_ok (Err e) a h = absurd (cc)
 same_node : (n m : Annotation) → yes NodeFault n ≡ Ok m → n ≡ m
 same_node n m h = cc
 
+numbers_so : (a : PlainTy) → IsTrue (are_numbers a) → AreNumbers a
+numbers_so U32 h = tt
+numbers_so U32x4 h = absurd (cc)
+numbers_so (PairOf a b) h = let p = and_parts (are_numbers a) (are_numbers b) h in (numbers_so a p.0, numbers_so b p.1)
+numbers_so (ArrayOf a n) h = absurd (cc)
+
 holds_so : (a : PlainTy) → IsTrue (holds_elements a) → HoldsElements a
 holds_so U32 h = tt
-holds_so (PairOf a b) h = let p = and_parts (is_element a) (is_element b) h in (is_element_so a p.0, is_element_so b p.1)
+holds_so U32x4 h = tt
+holds_so (PairOf a b) h = let p = and_parts (are_numbers a) (are_numbers b) h in (numbers_so a p.0, numbers_so b p.1)
 holds_so (ArrayOf a n) h = holds_so a h
 
 output_so : (a : PlainTy) → IsTrue (is_output a) → IsOutput a
 output_so U32 h = absurd (cc)
+output_so U32x4 h = absurd (cc)
 output_so (PairOf a b) h = absurd (cc)
 output_so (ArrayOf a n) h = holds_so a h
 
@@ -46,7 +54,7 @@ every_formed names [] h = tt
 every_formed names (a ∷ types) h = (good_formed names a h.0, every_formed names types h.1)
 
 -- an input's type, worked out
-element_type : (names : List Name) (w : Written) → IsElementType w → IsElement (worked_out names w)
+element_type : (names : List Name) (w : Written) → IsElementType w → AreNumbers (worked_out names w)
 element_type names written.Number h = tt
 element_type names (written.Pair v w) h = (element_type names v h.0, element_type names w h.1)
 element_type names (written.Array w n) h = absurd h

@@ -1,5 +1,5 @@
 -- Types, judged in order: the type, or the first refusal.
-use Rattle.std.specs.Prelude.{◌≡◌, ℕ, suc, min, Bool, true, false, ◌&&◌, if◌then◌else◌, nat_lt, List, [], ◌∷◌, length, map, Result, Ok, Err, Option, Some, None}
+use Rattle.std.specs.Prelude.{◌≡◌, ℕ, suc, ◌*◌, min, Bool, true, false, ◌&&◌, if◌then◌else◌, nat_lt, List, [], ◌∷◌, length, map, Result, Ok, Err, Option, Some, None}
 use Rattle.size_arith.specs.declared.names.Name.{Name}
 use Rattle.size_arith.specs.declared.poly.Monomial.{Monomial}
 use Rattle.size_arith.specs.declared.poly.PolyNo.{PolyNo}
@@ -10,7 +10,8 @@ use Rattle.size_arith.specs.Decisions.{is_shown, is_same}
 use Rattle.lift_tree.specs.declared.length.Factor.{Factor}
 use Rattle.lift_tree.specs.declared.length.Part.{Part}
 use Rattle.lift_tree.specs.declared.layout.Layout as layout
-use Rattle.lift_tree.specs.declared.layout.Layout.TheVariants.{Join, Transpose, Split, Reverse, Stride}
+use Rattle.lift_tree.specs.declared.layout.Layout.TheVariants.{Join, Transpose, Split, Reverse, Stride, AsVector, AsScalar}
+use Rattle.lift_tree.specs.declared.term.Operator.{Operator}
 use Rattle.lift_tree.specs.declared.term.UnaryForm.{UnaryForm}
 use Rattle.lift_tree.specs.declared.term.UnaryForm.TheVariants.{Div, Rem, First, Second, Layout, Slide, Pad, ToLocal, ToPrivate, Then}
 use Rattle.lift_tree.specs.declared.term.BinaryForm.{BinaryForm}
@@ -19,8 +20,8 @@ use Rattle.lift_tree.specs.Tree.{Tree, Variable, Number, Input, Unary, Binary, S
 use Rattle.lift_tree.specs.InputTypes as written
 use Rattle.lift_tree.specs.InputTypes.{Written}
 use Rattle.lift_tree.specs.Programs.{PlainInput, PlainProgram}
-use Rattle.lift_tree.specs.Types.{PlainTy, U32, PairOf, ArrayOf, is_element}
-use Rattle.lift_tree.specs.Typing.{Declared, constant}
+use Rattle.lift_tree.specs.Types.{PlainTy, U32, U32x4, PairOf, ArrayOf, is_element}
+use Rattle.lift_tree.specs.Typing.{Declared, constant, is_lane_operator}
 use Rattle.lift_tree.specs.WorkedOut.{factor_monomial, with_part, range_of}
 use Rattle.lift_tree.specs.Limits.{arrays, components}
 use Rattle.lift_tree.specs.Annotations.{Annotation, Leaf, One, Two, Three, type_in}
@@ -92,6 +93,7 @@ at_most most which n = if nat_lt most n then Err (Passes which n) else Ok tt
 -- each component's product of lengths, where those outside have this product
 abbrev pub scalars_judged : List Name → List Monomial → PlainTy → Result (Unit {0}) Fault
 scalars_judged names p U32 = at_most 2147483647 limit.Scalars (largest names p)
+scalars_judged names p U32x4 = at_most 2147483647 limit.Scalars (4 * largest names p)
 scalars_judged names p (PairOf a b) =
     and_then (scalars_judged names p a) (λ _. scalars_judged names p b)
 scalars_judged names p (ArrayOf a n) = and_then (within (times p n)) (λ q. scalars_judged names q a)
@@ -110,6 +112,12 @@ formed names a n =
 abbrev pub number_row : PlainTy → Result PlainTy Fault
 number_row U32 = Ok U32
 number_row _ = Err (Breaks rule.Operator)
+
+-- an operand that is a number, or four
+abbrev pub numeric_row : PlainTy → Result PlainTy Fault
+numeric_row U32 = Ok U32
+numeric_row U32x4 = Ok U32x4
+numeric_row _ = Err (Breaks rule.Operator)
 
 -- a pair's first part
 abbrev pub first_row : PlainTy → Result PlainTy Fault
@@ -158,6 +166,22 @@ abbrev pub stride_row : List Monomial → PlainTy → Result PlainTy Fault
 stride_row m (ArrayOf a n) = strided_row a n (exact_quotient m n)
 stride_row m _ = Err (Breaks rule.Stride)
 
+-- as many vectors as the quotient says, where there is one
+abbrev pub vectors_row : List Name → Option (List Monomial) → Result PlainTy Fault
+vectors_row names None = Err (Breaks rule.Split)
+vectors_row names (Some q) = formed names U32x4 q
+
+-- an array of numbers in vectors of four
+abbrev pub as_vector_row : List Name → PlainTy → Result PlainTy Fault
+as_vector_row names (ArrayOf U32 n) = vectors_row names (exact_quotient (constant 4) n)
+as_vector_row names _ = Err (Breaks rule.Split)
+
+-- the numbers of an array of vectors
+abbrev pub as_scalar_row : List Name → PlainTy → Result PlainTy Fault
+as_scalar_row names (ArrayOf U32x4 n) =
+    and_then (within (times n (constant 4))) (λ l. formed names U32 l)
+as_scalar_row names _ = Err (Breaks rule.Join)
+
 -- what each layout makes of a type
 abbrev pub layout_row : List Name → layout.Layout → PlainTy → Result PlainTy Fault
 layout_row names Join a = join_row names a
@@ -167,6 +191,8 @@ layout_row names (Split fs) a =
 layout_row names Reverse a = reverse_row a
 layout_row names (Stride fs) a =
     and_then (product_judged names (constant 1) fs) (λ m. stride_row m a)
+layout_row names AsVector a = as_vector_row names a
+layout_row names AsScalar a = as_scalar_row names a
 
 -- windows of length s, one more than the steps that fit
 abbrev pub windows_row : List Name → PlainTy → ℕ → Option (List Monomial) → Result PlainTy Fault
@@ -192,8 +218,8 @@ pad_row names l r _ = Err (Breaks rule.Pad)
 
 -- the type of a node with one child, from the child's type
 abbrev pub unary_row : List Name → UnaryForm → PlainTy → Result PlainTy Fault
-unary_row names (Div n) a = number_row a
-unary_row names (Rem n) a = number_row a
+unary_row names (Div n) a = numeric_row a
+unary_row names (Rem n) a = numeric_row a
 unary_row names First a = first_row a
 unary_row names Second a = second_row a
 unary_row names (Layout l) a = layout_row names l a
@@ -203,9 +229,17 @@ unary_row names ToLocal a = Ok a
 unary_row names ToPrivate a = Ok a
 unary_row names Then a = Ok a
 
--- the type of an operator on two numbers
-abbrev pub operator_row : PlainTy → PlainTy → Result PlainTy Fault
-operator_row a b = and_then (number_row a) (λ _. number_row b)
+-- the type of an operator of which an operand is a vector: it acts lane by lane
+abbrev pub lanes_row : Operator → Result PlainTy Fault
+lanes_row o = and_then (demand (is_lane_operator o) rule.Operator) (λ _. Ok U32x4)
+
+-- the type of an operator on two operands, numbers or vectors
+abbrev pub operator_row : Operator → PlainTy → PlainTy → Result PlainTy Fault
+operator_row o U32 U32 = Ok U32
+operator_row o U32 U32x4 = lanes_row o
+operator_row o U32x4 U32 = lanes_row o
+operator_row o U32x4 U32x4 = lanes_row o
+operator_row o _ _ = Err (Breaks rule.Operator)
 
 -- the type of a pair of two elements
 abbrev pub pair_row : PlainTy → PlainTy → Result PlainTy Fault
@@ -224,14 +258,15 @@ reduce_row names _ _ = Err (Breaks rule.Reduce)
 
 -- the type of a node with two children, from the children's types
 abbrev pub binary_row : List Name → BinaryForm → PlainTy → PlainTy → Result PlainTy Fault
-binary_row names (binary.Operator o) a b = operator_row a b
+binary_row names (binary.Operator o) a b = operator_row o a b
 binary_row names binary.Pair a b = pair_row a b
 binary_row names binary.Zip a b = zip_row names a b
 binary_row names (binary.Reduce r) a b = reduce_row names a b
 
 -- the type of a choice between two numbers by a third
 abbrev pub select_row : PlainTy → PlainTy → PlainTy → Result PlainTy Fault
-select_row a b c = and_then (operator_row a b) (λ _. number_row c)
+select_row a b c =
+    and_then (number_row a) (λ _. and_then (number_row b) (λ _. number_row c))
 
 -- the element type of an array, which the rule demands
 abbrev pub element_in : Rule → PlainTy → Result PlainTy Fault

@@ -1,5 +1,5 @@
 -- What a refusal says, by the typing relation: the first spot without a type within the limits.
-use Rattle.std.specs.Prelude.{ℕ, zero, suc, ◌≡◌, ◌≤◌, ◌<◌, ◌⊎◌, List, [], ◌∷◌, ◌++◌, codes, length, map, pos, Option, Some, None, Err}
+use Rattle.std.specs.Prelude.{ℕ, zero, suc, ◌*◌, true, ◌≡◌, ◌≤◌, ◌<◌, ◌⊎◌, List, [], ◌∷◌, ◌++◌, codes, length, map, pos, Option, Some, None, Err}
 use Rattle.size_arith.specs.declared.names.Name.{Name}
 use Rattle.size_arith.specs.declared.poly.Monomial.{Monomial}
 use Rattle.size_arith.specs.Polynomial.{number, of_monomial, plus, minus, times, quotient, AllDivide, degree, greatest}
@@ -8,7 +8,8 @@ use Rattle.size_arith.specs.Shown.{ShownAtLeast, largest}
 use Rattle.lift_tree.specs.declared.length.Factor.{Factor}
 use Rattle.lift_tree.specs.declared.length.Part.{Part}
 use Rattle.lift_tree.specs.declared.layout.Layout as layout
-use Rattle.lift_tree.specs.declared.layout.Layout.TheVariants.{Join, Transpose, Split, Reverse, Stride}
+use Rattle.lift_tree.specs.declared.layout.Layout.TheVariants.{Join, Transpose, Split, Reverse, Stride, AsVector, AsScalar}
+use Rattle.lift_tree.specs.declared.term.Operator.{Operator}
 use Rattle.lift_tree.specs.declared.term.UnaryForm.{UnaryForm}
 use Rattle.lift_tree.specs.declared.term.UnaryForm.TheVariants.{Div, Rem, First, Second, Layout, Slide, Pad, ToLocal, ToPrivate, Then}
 use Rattle.lift_tree.specs.declared.term.BinaryForm.{BinaryForm}
@@ -21,8 +22,8 @@ use Rattle.lift_tree.specs.Limits.{arrays, components, InputFits, NodesFit}
 use Rattle.lift_tree.specs.Lists.{Every}
 use Rattle.lift_tree.specs.Programs.{PlainInput, PlainProgram}
 use Rattle.lift_tree.specs.Tree.{Tree, Variable, Number, Input, Unary, Binary, Select, Let, Map, Fold}
-use Rattle.lift_tree.specs.Types.{PlainTy, U32, PairOf, ArrayOf, IsElement, IsFormed, IsOutput}
-use Rattle.lift_tree.specs.Typing.{Declared, IsDeclared, constant, declared_by}
+use Rattle.lift_tree.specs.Types.{PlainTy, U32, U32x4, PairOf, ArrayOf, IsElement, IsFormed, IsOutput}
+use Rattle.lift_tree.specs.Typing.{Declared, IsDeclared, IsNumeric, constant, declared_by, is_lane_operator}
 use Rattle.lift_tree.specs.WorkedOut.{factor_monomial, product_of, with_part, length_of, worked_out, range_of}
 use Rattle.pattern_types.specs.declared.refusal.Rule.{Rule}
 use Rattle.pattern_types.specs.declared.refusal.Rule.TheVariants as rule
@@ -65,6 +66,7 @@ CountsLength limit.Scalars c p = ⊥
 -- this one
 abbrev pub CountsInside : List Name → TypeLimit → ℕ → (outside : List Monomial) → PlainTy → Type 0
 CountsInside names l c p U32 = (l ≡ limit.Scalars) × (c ≡ largest names p)
+CountsInside names l c p U32x4 = (l ≡ limit.Scalars) × (c ≡ 4 * largest names p)
 CountsInside names l c p (PairOf a b) = CountsInside names l c p a ⊎ CountsInside names l c p b
 CountsInside names l c p (ArrayOf a n) =
     CountsLength l c (times p n) ⊎ CountsInside names l c (times p n) a
@@ -148,6 +150,8 @@ layout_rule Transpose = rule.Transpose
 layout_rule (Split fs) = rule.Split
 layout_rule Reverse = rule.Reverse
 layout_rule (Stride fs) = rule.Stride
+layout_rule AsVector = rule.Split
+layout_rule AsScalar = rule.Join
 
 -- the rule of a form with one child; a copy and a `then` have none
 abbrev pub unary_rule : UnaryForm → Option Rule
@@ -179,6 +183,14 @@ abbrev pub IsDivided : List Name → List Factor → PlainTy → Type 0
 IsDivided names fs b =
     (x : PlainTy) × (n : List Monomial) × (b ≡ ArrayOf x n) × AllDivide (product_of names fs) n
 
+-- the type is that of an array of numbers whose length 4 divides
+abbrev pub IsInFours : PlainTy → Type 0
+IsInFours b = (n : List Monomial) × (b ≡ ArrayOf U32 n) × AllDivide (number (pos 4)) n
+
+-- the type is that of an array of vectors
+abbrev pub IsOfVectors : PlainTy → Type 0
+IsOfVectors b = (n : List Monomial) × (b ≡ ArrayOf U32x4 n)
+
 -- what a layout demands of its child's type
 abbrev pub LayoutDemand : List Name → layout.Layout → PlainTy → Type 0
 LayoutDemand names Join b = IsArrayOfArrays b
@@ -186,11 +198,13 @@ LayoutDemand names Transpose b = IsArrayOfArrays b
 LayoutDemand names (Split fs) b = IsDivided names fs b
 LayoutDemand names Reverse b = IsArray b
 LayoutDemand names (Stride fs) b = IsDivided names fs b
+LayoutDemand names AsVector b = IsInFours b
+LayoutDemand names AsScalar b = IsOfVectors b
 
 -- what a form demands of its one child's type
 abbrev pub UnaryDemand : List Name → UnaryForm → PlainTy → Type 0
-UnaryDemand names (Div n) b = b ≡ U32
-UnaryDemand names (Rem n) b = b ≡ U32
+UnaryDemand names (Div n) b = IsNumeric b
+UnaryDemand names (Rem n) b = IsNumeric b
 UnaryDemand names First b = IsPair b
 UnaryDemand names Second b = IsPair b
 UnaryDemand names (Layout l) b = LayoutDemand names l b
@@ -215,6 +229,9 @@ layout_formed names Transpose (ArrayOf (ArrayOf x m) n) = formed x n ∷ formed 
 layout_formed names (Split fs) (ArrayOf x n) =
     let m = product_of names fs in
     formed x (of_monomial m) ∷ formed (ArrayOf x (of_monomial m)) (quotient m n) ∷ []
+layout_formed names AsVector (ArrayOf U32 n) =
+    formed U32x4 (quotient (number (pos 4)) n) ∷ []
+layout_formed names AsScalar (ArrayOf U32x4 n) = formed U32 (times n (constant 4)) ∷ []
 layout_formed names l b = []
 
 -- the arrays that a form with one child forms
@@ -231,6 +248,7 @@ abbrev pub layout_lengths : List Name → layout.Layout → PlainTy → List (Li
 layout_lengths names Join (ArrayOf (ArrayOf x m) n) = times n m ∷ []
 layout_lengths names (Split fs) b = products_along names (constant 1) fs
 layout_lengths names (Stride fs) b = products_along names (constant 1) fs
+layout_lengths names AsScalar (ArrayOf U32x4 n) = times n (constant 4) ∷ []
 layout_lengths names l b = []
 
 -- the sums and products that are worked out for a form with one child
@@ -254,9 +272,15 @@ binary_rule binary.Pair = rule.Pair
 binary_rule binary.Zip = rule.Zip
 binary_rule (binary.Reduce r) = rule.Reduce
 
+-- what an operator demands of its operands' types: numbers, or also vectors where it acts lane
+-- by lane
+abbrev pub OperatorDemand : Operator → (b c : PlainTy) → Type 0
+OperatorDemand o b c =
+    ((b ≡ U32) × (c ≡ U32)) ⊎ ((is_lane_operator o ≡ true) × IsNumeric b × IsNumeric c)
+
 -- what a form demands of its two children's types
 abbrev pub BinaryDemand : BinaryForm → (b c : PlainTy) → Type 0
-BinaryDemand (binary.Operator o) b c = (b ≡ U32) × (c ≡ U32)
+BinaryDemand (binary.Operator o) b c = OperatorDemand o b c
 BinaryDemand binary.Pair b c = IsElement b × IsElement c
 BinaryDemand binary.Zip b c =
     (x y : PlainTy) × (n : List Monomial) × (b ≡ ArrayOf x n) × (c ≡ ArrayOf y n)

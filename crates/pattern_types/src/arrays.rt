@@ -1,6 +1,7 @@
 //! Arrays that are formed, and tests of types.
 
-ghost use Rattle.std.specs.Prelude.{◌≡◌, ◌≢◌, IfErr, IfOk, OnOk, Err, Ok, length};
+ghost use Rattle.std.specs.Prelude.{◌≡◌, ◌≢◌, ◌*◌, IfErr, IfOk, OnOk, Err, Ok, length};
+ghost use Rattle.size_arith.specs.Shown.{largest};
 ghost use Rattle.lift_tree.specs.Types.{ty_of, ArrayOf};
 ghost use Rattle.lift_tree.specs.Limits.{arrays, components};
 ghost use Rattle.pattern_types.specs.declared.fault.Fault.TheVariants.{Memory};
@@ -18,7 +19,7 @@ pub fn is_output(ty: &Ty) -> bool
     ensures { result ≡ is_output (ty_of ty.now) }
 {
     match ty {
-        Ty::Number | Ty::Pair(_, _) => false,
+        Ty::Number | Ty::Vector | Ty::Pair(_, _) => false,
         Ty::Array(element, _) => element.holds_elements(),
     }
 }
@@ -29,11 +30,15 @@ pub fn is_same_element(a: &Ty, b: &Ty) -> bool
     match a {
         Ty::Number => match b {
             Ty::Number => true,
-            Ty::Pair(_, _) | Ty::Array(_, _) => false,
+            Ty::Vector | Ty::Pair(_, _) | Ty::Array(_, _) => false,
+        },
+        Ty::Vector => match b {
+            Ty::Vector => true,
+            Ty::Number | Ty::Pair(_, _) | Ty::Array(_, _) => false,
         },
         Ty::Pair(a, c) => match b {
             Ty::Pair(b, d) => is_same_element(a, b) && is_same_element(c, d),
-            Ty::Number | Ty::Array(_, _) => false,
+            Ty::Number | Ty::Vector | Ty::Array(_, _) => false,
         },
         Ty::Array(_, _) => false,
     }
@@ -46,7 +51,7 @@ pub fn element_of(ty: &Ty, rule: Rule) -> Result<&Ty, Fault>
 {
     match ty {
         Ty::Array(element, _) => Ok(element),
-        Ty::Number | Ty::Pair(_, _) => Err(Fault::Breaks(rule)),
+        Ty::Number | Ty::Vector | Ty::Pair(_, _) => Err(Fault::Breaks(rule)),
     }
 }
 
@@ -55,7 +60,7 @@ fn array_count(ty: &Ty) -> u64
     ensures { result ≡ counted (arrays (ty_of ty.now)) }
 {
     match ty {
-        Ty::Number => 0,
+        Ty::Number | Ty::Vector => 0,
         Ty::Pair(a, b) => array_count(a).max(array_count(b)),
         Ty::Array(element, _) => array_count(element).saturating_add(1),
     }
@@ -67,7 +72,7 @@ fn component_count(ty: &Ty) -> u64
     ensures { result ≡ counted (length (components (ty_of ty.now))) }
 {
     match ty {
-        Ty::Number => 1,
+        Ty::Number | Ty::Vector => 1,
         Ty::Pair(a, b) => component_count(a).saturating_add(component_count(b)),
         Ty::Array(element, _) => component_count(element),
     }
@@ -83,6 +88,16 @@ fn limited(most: u128, which: TypeLimit, count: u128) -> Result<(), Fault>
     Ok(())
 }
 
+// Four times the sum of the positive monomials at the greatest sizes.
+#[tactic(auto, using(crate::proofs::Fours::four_fit))]
+fn four_times_largest(length: &Poly, names: &Names) -> u128
+    ensures { result ≡ 4 * largest names.now length.now }
+{
+    let _monomials = length.as_slice();
+    let _ranges = names.as_slice();
+    4 * length.largest(names)
+}
+
 // Judges the number of scalars of each component, where the lengths outside have this product.
 fn judge_scalars(alloc: Global, names: &Names, outside: &Poly, ty: &Ty) -> Result<(), Fault>
     ensures ok { OnOk result (scalars_judged names.now outside.now (ty_of ty.now) ≡ Ok tt) }
@@ -91,6 +106,10 @@ fn judge_scalars(alloc: Global, names: &Names, outside: &Poly, ty: &Ty) -> Resul
 {
     match ty {
         Ty::Number => limited(2147483647, TypeLimit::Scalars, outside.largest(names)),
+        Ty::Vector => {
+            let scalars = four_times_largest(outside, names);
+            limited(2147483647, TypeLimit::Scalars, scalars)
+        }
         Ty::Pair(a, b) => {
             judge_scalars(alloc, names, outside, a)?;
             judge_scalars(alloc, names, outside, b)

@@ -177,7 +177,7 @@ fn are_ranges(sizes: &[Size]) -> bool
 }
 
 /// Whether the program's sizes are at most 8 with proper ranges, and its inputs arrays whose pairs
-/// hold elements only and whose lengths name these sizes alone.
+/// hold numbers only and whose lengths name these sizes alone.
 pub fn is_proper(program: &Program) -> bool
     ensures { IsTrue result ↔ IsProper (program_of program.now) }
 {

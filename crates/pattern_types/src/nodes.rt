@@ -87,7 +87,7 @@ fn map_end(alloc: Global, names: &Names, array: &Ty, body: &Ty) -> Result<Ty, Fa
 {
     match array {
         Ty::Array(_, length) => formed(alloc, names, body.copy(alloc)?, length.copy(alloc)?),
-        Ty::Number | Ty::Pair(_, _) => Err(Fault::Breaks(Rule::Map)),
+        Ty::Number | Ty::Vector | Ty::Pair(_, _) => Err(Fault::Breaks(Rule::Map)),
     }
 }
 

@@ -36,7 +36,7 @@ pub enum Rule {
     Slide,
     /// The operand of a `pad` is an array.
     Pad,
-    /// The whole is an array, whose pairs hold elements only.
+    /// The whole is an array, whose pairs hold numbers only.
     Output,
     /// Each array that is formed has a length shown to be at least 1.
     Length,

@@ -4,14 +4,14 @@ ghost use Rattle.std.specs.Prelude.{◌≡◌, ◌≢◌, IfErr, IfOk, Err, Ok, 
 ghost use Rattle.lift_tree.specs.Types.{ty_of, PairOf};
 ghost use Rattle.pattern_types.specs.declared.fault.Fault.TheVariants.{Memory};
 ghost use Rattle.lift_tree.specs.Belonging.{FormIsNamed, LayoutIsNamed};
-ghost use Rattle.pattern_types.specs.Judged.{number_row, first_row, second_row, join_row, transpose_row, split_row, reverse_row, stride_row, layout_row, windows_row, slide_row, pad_row, unary_row, operator_row, pair_row, zip_row, reduce_row, binary_row, select_row};
+ghost use Rattle.pattern_types.specs.Judged.{number_row, numeric_row, first_row, second_row, join_row, transpose_row, split_row, reverse_row, stride_row, as_vector_row, as_scalar_row, layout_row, windows_row, slide_row, pad_row, unary_row, lanes_row, operator_row, pair_row, zip_row, reduce_row, binary_row, select_row};
 
 use crate::arrays::formed;
 use crate::fault::{Fault, demanded};
 use crate::lengths::{constant, difference, exact_quotient, product, product_of, sum};
 use crate::refusal::Rule;
 use lift_tree::layout::Layout;
-use lift_tree::term::{BinaryForm, UnaryForm};
+use lift_tree::term::{BinaryForm, Operator, UnaryForm};
 use lift_tree::ty::Ty;
 use size_arith::{Names, Poly};
 use std::alloc::{AllocError, Global};
@@ -22,6 +22,18 @@ fn number(operand: &Ty) -> Result<Ty, Fault>
 {
     match operand {
         Ty::Number => Ok(Ty::Number),
+        Ty::Vector | Ty::Pair(_, _) | Ty::Array(_, _) => Err(Fault::Breaks(Rule::Operator)),
+    }
+}
+
+// The type of a number, or of four, divided by a number.
+fn numeric(operand: &Ty) -> Result<Ty, Fault>
+    ensures ok { IfOk result (λ t. numeric_row (ty_of operand.now) ≡ Ok (ty_of t)) }
+    ensures refused { IfErr result (λ f. numeric_row (ty_of operand.now) ≡ Err f) }
+{
+    match operand {
+        Ty::Number => Ok(Ty::Number),
+        Ty::Vector => Ok(Ty::Vector),
         Ty::Pair(_, _) | Ty::Array(_, _) => Err(Fault::Breaks(Rule::Operator)),
     }
 }
@@ -32,7 +44,7 @@ fn first(alloc: Global, operand: &Ty) -> Result<Ty, Fault>
 {
     match operand {
         Ty::Pair(a, _) => Ok(a.copy(alloc)?),
-        Ty::Number | Ty::Array(_, _) => Err(Fault::Breaks(Rule::Project)),
+        Ty::Number | Ty::Vector | Ty::Array(_, _) => Err(Fault::Breaks(Rule::Project)),
     }
 }
 
@@ -42,7 +54,7 @@ fn second(alloc: Global, operand: &Ty) -> Result<Ty, Fault>
 {
     match operand {
         Ty::Pair(_, b) => Ok(b.copy(alloc)?),
-        Ty::Number | Ty::Array(_, _) => Err(Fault::Breaks(Rule::Project)),
+        Ty::Number | Ty::Vector | Ty::Array(_, _) => Err(Fault::Breaks(Rule::Project)),
     }
 }
 
@@ -57,9 +69,9 @@ fn join(alloc: Global, names: &Names, operand: &Ty) -> Result<Ty, Fault>
                 let all = product(alloc, outer, inner)?;
                 formed(alloc, names, element.copy(alloc)?, all)
             }
-            Ty::Number | Ty::Pair(_, _) => Err(Fault::Breaks(Rule::Join)),
+            Ty::Number | Ty::Vector | Ty::Pair(_, _) => Err(Fault::Breaks(Rule::Join)),
         },
-        Ty::Number | Ty::Pair(_, _) => Err(Fault::Breaks(Rule::Join)),
+        Ty::Number | Ty::Vector | Ty::Pair(_, _) => Err(Fault::Breaks(Rule::Join)),
     }
 }
 
@@ -74,9 +86,9 @@ fn transpose(alloc: Global, names: &Names, operand: &Ty) -> Result<Ty, Fault>
                 let column = formed(alloc, names, element.copy(alloc)?, outer.copy(alloc)?)?;
                 formed(alloc, names, column, inner.copy(alloc)?)
             }
-            Ty::Number | Ty::Pair(_, _) => Err(Fault::Breaks(Rule::Transpose)),
+            Ty::Number | Ty::Vector | Ty::Pair(_, _) => Err(Fault::Breaks(Rule::Transpose)),
         },
-        Ty::Number | Ty::Pair(_, _) => Err(Fault::Breaks(Rule::Transpose)),
+        Ty::Number | Ty::Vector | Ty::Pair(_, _) => Err(Fault::Breaks(Rule::Transpose)),
     }
 }
 
@@ -93,7 +105,7 @@ fn split(alloc: Global, names: &Names, piece: Poly, operand: &Ty) -> Result<Ty, 
             }
             None => Err(Fault::Breaks(Rule::Split)),
         },
-        Ty::Number | Ty::Pair(_, _) => Err(Fault::Breaks(Rule::Split)),
+        Ty::Number | Ty::Vector | Ty::Pair(_, _) => Err(Fault::Breaks(Rule::Split)),
     }
 }
 
@@ -103,7 +115,7 @@ fn reverse(alloc: Global, operand: &Ty) -> Result<Ty, Fault>
 {
     match operand {
         Ty::Array(_, _) => Ok(operand.copy(alloc)?),
-        Ty::Number | Ty::Pair(_, _) => Err(Fault::Breaks(Rule::Reverse)),
+        Ty::Number | Ty::Vector | Ty::Pair(_, _) => Err(Fault::Breaks(Rule::Reverse)),
     }
 }
 
@@ -117,7 +129,41 @@ fn stride(alloc: Global, step: &Poly, operand: &Ty) -> Result<Ty, Fault>
             Some(_) => Ok(operand.copy(alloc)?),
             None => Err(Fault::Breaks(Rule::Stride)),
         },
-        Ty::Number | Ty::Pair(_, _) => Err(Fault::Breaks(Rule::Stride)),
+        Ty::Number | Ty::Vector | Ty::Pair(_, _) => Err(Fault::Breaks(Rule::Stride)),
+    }
+}
+
+fn as_vector(alloc: Global, names: &Names, operand: &Ty) -> Result<Ty, Fault>
+    ensures ok { IfOk result (λ t. as_vector_row names.now (ty_of operand.now) ≡ Ok (ty_of t)) }
+    ensures refused { IfErr result (λ f. f ≢ Memory → as_vector_row names.now (ty_of operand.now)
+        ≡ Err f) }
+{
+    match operand {
+        Ty::Array(element, whole) => match &**element {
+            Ty::Number => match exact_quotient(alloc, &constant(alloc, 4)?, whole)? {
+                Some(count) => formed(alloc, names, Ty::Vector, count),
+                None => Err(Fault::Breaks(Rule::Split)),
+            },
+            Ty::Vector | Ty::Pair(_, _) | Ty::Array(_, _) => Err(Fault::Breaks(Rule::Split)),
+        },
+        Ty::Number | Ty::Vector | Ty::Pair(_, _) => Err(Fault::Breaks(Rule::Split)),
+    }
+}
+
+fn as_scalar(alloc: Global, names: &Names, operand: &Ty) -> Result<Ty, Fault>
+    ensures ok { IfOk result (λ t. as_scalar_row names.now (ty_of operand.now) ≡ Ok (ty_of t)) }
+    ensures refused { IfErr result (λ f. f ≢ Memory → as_scalar_row names.now (ty_of operand.now)
+        ≡ Err f) }
+{
+    match operand {
+        Ty::Array(element, whole) => match &**element {
+            Ty::Vector => {
+                let all = product(alloc, whole, &constant(alloc, 4)?)?;
+                formed(alloc, names, Ty::Number, all)
+            }
+            Ty::Number | Ty::Pair(_, _) | Ty::Array(_, _) => Err(Fault::Breaks(Rule::Join)),
+        },
+        Ty::Number | Ty::Vector | Ty::Pair(_, _) => Err(Fault::Breaks(Rule::Join)),
     }
 }
 
@@ -141,6 +187,8 @@ fn layout(alloc: Global, names: &Names, layout: &Layout, operand: &Ty) -> Result
             let step = product_of(alloc, names, step)?;
             stride(alloc, &step, operand)
         }
+        Layout::AsVector => as_vector(alloc, names, operand),
+        Layout::AsScalar => as_scalar(alloc, names, operand),
     }
 }
 
@@ -171,7 +219,7 @@ fn slide(alloc: Global, names: &Names, size: u32, step: u32, operand: &Ty) -> Re
                 None => Err(Fault::Breaks(Rule::Slide)),
             }
         }
-        Ty::Number | Ty::Pair(_, _) => Err(Fault::Breaks(Rule::Slide)),
+        Ty::Number | Ty::Vector | Ty::Pair(_, _) => Err(Fault::Breaks(Rule::Slide)),
     }
 }
 
@@ -187,7 +235,7 @@ fn pad(alloc: Global, names: &Names, before: u32, after: u32, operand: &Ty) -> R
             let with_last = sum(alloc, &with_first, &constant(alloc, after)?)?;
             formed(alloc, names, element.copy(alloc)?, with_last)
         }
-        Ty::Number | Ty::Pair(_, _) => Err(Fault::Breaks(Rule::Pad)),
+        Ty::Number | Ty::Vector | Ty::Pair(_, _) => Err(Fault::Breaks(Rule::Pad)),
     }
 }
 
@@ -200,7 +248,7 @@ pub fn unary(alloc: Global, names: &Names, form: &UnaryForm, operand: &Ty) -> Re
         → unary_row names.now form.now (ty_of operand.now) ≡ Err f) }
 {
     match form {
-        UnaryForm::Div(_) | UnaryForm::Rem(_) => number(operand),
+        UnaryForm::Div(_) | UnaryForm::Rem(_) => numeric(operand),
         UnaryForm::First => first(alloc, operand),
         UnaryForm::Second => second(alloc, operand),
         UnaryForm::Layout(by) => layout(alloc, names, by, operand),
@@ -210,12 +258,35 @@ pub fn unary(alloc: Global, names: &Names, form: &UnaryForm, operand: &Ty) -> Re
     }
 }
 
-fn operator(a: &Ty, b: &Ty) -> Result<Ty, Fault>
-    ensures ok { IfOk result (λ t. operator_row (ty_of a.now) (ty_of b.now) ≡ Ok (ty_of t)) }
-    ensures refused { IfErr result (λ f. operator_row (ty_of a.now) (ty_of b.now) ≡ Err f) }
+// The type of an operator of which an operand is a vector: it acts lane by lane.
+fn lanes(operator: Operator) -> Result<Ty, Fault>
+    ensures ok { IfOk result (λ t. lanes_row operator ≡ Ok (ty_of t)) }
+    ensures refused { IfErr result (λ f. lanes_row operator ≡ Err f) }
 {
-    number(a)?;
-    number(b)
+    match operator {
+        Operator::Regrouping(_) | Operator::Sub | Operator::Shl | Operator::Shr => Ok(Ty::Vector),
+        Operator::Lt | Operator::Eq => Err(Fault::Breaks(Rule::Operator)),
+    }
+}
+
+fn operator(operator: Operator, a: &Ty, b: &Ty) -> Result<Ty, Fault>
+    ensures ok { IfOk result (λ t. operator_row operator (ty_of a.now) (ty_of b.now)
+        ≡ Ok (ty_of t)) }
+    ensures refused { IfErr result (λ f. operator_row operator (ty_of a.now) (ty_of b.now)
+        ≡ Err f) }
+{
+    match a {
+        Ty::Number => match b {
+            Ty::Number => Ok(Ty::Number),
+            Ty::Vector => lanes(operator),
+            Ty::Pair(_, _) | Ty::Array(_, _) => Err(Fault::Breaks(Rule::Operator)),
+        },
+        Ty::Vector => match b {
+            Ty::Number | Ty::Vector => lanes(operator),
+            Ty::Pair(_, _) | Ty::Array(_, _) => Err(Fault::Breaks(Rule::Operator)),
+        },
+        Ty::Pair(_, _) | Ty::Array(_, _) => Err(Fault::Breaks(Rule::Operator)),
+    }
 }
 
 fn pair(alloc: Global, a: &Ty, b: &Ty) -> Result<Ty, Fault>
@@ -246,9 +317,9 @@ fn zip(alloc: Global, names: &Names, a: &Ty, b: &Ty) -> Result<Ty, Fault>
                 let element = pair_of(alloc, first, second)?;
                 formed(alloc, names, element, length.copy(alloc)?)
             }
-            Ty::Number | Ty::Pair(_, _) => Err(Fault::Breaks(Rule::Zip)),
+            Ty::Number | Ty::Vector | Ty::Pair(_, _) => Err(Fault::Breaks(Rule::Zip)),
         },
-        Ty::Number | Ty::Pair(_, _) => Err(Fault::Breaks(Rule::Zip)),
+        Ty::Number | Ty::Vector | Ty::Pair(_, _) => Err(Fault::Breaks(Rule::Zip)),
     }
 }
 
@@ -262,11 +333,11 @@ fn reduce(alloc: Global, names: &Names, array: &Ty, start: &Ty) -> Result<Ty, Fa
         Ty::Array(element, _) => match &**element {
             Ty::Number => match start {
                 Ty::Number => formed(alloc, names, Ty::Number, constant(alloc, 1)?),
-                Ty::Pair(_, _) | Ty::Array(_, _) => Err(Fault::Breaks(Rule::Reduce)),
+                Ty::Vector | Ty::Pair(_, _) | Ty::Array(_, _) => Err(Fault::Breaks(Rule::Reduce)),
             },
-            Ty::Pair(_, _) | Ty::Array(_, _) => Err(Fault::Breaks(Rule::Reduce)),
+            Ty::Vector | Ty::Pair(_, _) | Ty::Array(_, _) => Err(Fault::Breaks(Rule::Reduce)),
         },
-        Ty::Number | Ty::Pair(_, _) => Err(Fault::Breaks(Rule::Reduce)),
+        Ty::Number | Ty::Vector | Ty::Pair(_, _) => Err(Fault::Breaks(Rule::Reduce)),
     }
 }
 
@@ -278,7 +349,7 @@ pub fn binary(alloc: Global, names: &Names, form: BinaryForm, a: &Ty, b: &Ty) ->
         → binary_row names.now form (ty_of a.now) (ty_of b.now) ≡ Err f) }
 {
     match form {
-        BinaryForm::Operator(_) => operator(a, b),
+        BinaryForm::Operator(by) => operator(by, a, b),
         BinaryForm::Pair => pair(alloc, a, b),
         BinaryForm::Zip => zip(alloc, names, a, b),
         BinaryForm::Reduce(_) => reduce(alloc, names, a, b),
@@ -292,6 +363,7 @@ pub fn select(a: &Ty, b: &Ty, c: &Ty) -> Result<Ty, Fault>
     ensures refused { IfErr result (λ f. select_row (ty_of a.now) (ty_of b.now) (ty_of c.now)
         ≡ Err f) }
 {
-    operator(a, b)?;
+    number(a)?;
+    number(b)?;
     number(c)
 }

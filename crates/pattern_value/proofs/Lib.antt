@@ -1,4 +1,5 @@
 pub mod Held
+pub mod ByLanes
 pub mod Layouts
 pub mod Operators
 pub mod Sizes

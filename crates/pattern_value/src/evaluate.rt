@@ -13,9 +13,10 @@ ghost use Rattle.pattern_value.specs.Pieces.{pieces_in};
 ghost use Rattle.pattern_value.specs.Shut.{map_under, fold_under, fold_by};
 ghost use Rattle.pattern_value.specs.World.{world_of};
 
+use crate::lanes::{operated, word_operator};
 use crate::layout::{Pieces, joined, pad, reversed, transposed, windows, zipped};
 use crate::lent::Held;
-use crate::operator::{applied, combined, quotient, remainder};
+use crate::operator::combined;
 use crate::part::{list, members_of, word_of};
 use crate::scope::Scope;
 use lift_tree::layout::Layout;
@@ -23,7 +24,7 @@ use lift_tree::length::Factor;
 use lift_tree::program::Size;
 use lift_tree::term::{BinaryForm, Term, UnaryForm};
 use lift_tree::value::Val;
-use scalar_ops::Reducer;
+use scalar_ops::{Op, Reducer};
 use std::alloc::{AllocError, Global};
 
 /// The declared sizes, the base names' values, and the inputs.
@@ -122,6 +123,8 @@ impl World<'_> {
             Layout::Split(length) => self.split(length.factors(), v.as_val()).cut(alloc),
             Layout::Reverse => Ok(reversed(alloc, v.into_owned(alloc)?)),
             Layout::Stride(step) => self.stride(alloc, step.factors(), v.as_val()),
+            Layout::AsVector => fours(v.as_val()).cut(alloc),
+            Layout::AsScalar => joined(alloc, v.into_owned(alloc)?),
         }
     }
 
@@ -135,8 +138,12 @@ impl World<'_> {
         ensures { IfOk result (λ u. held u ≡ unary_value (world_of self.now) form.now (held v.entry)) }
     {
         match form {
-            UnaryForm::Div(n) => Ok(Held::Owned(Val::Number(quotient(word_of(v.as_val()), *n)))),
-            UnaryForm::Rem(n) => Ok(Held::Owned(Val::Number(remainder(word_of(v.as_val()), *n)))),
+            UnaryForm::Div(n) => {
+                Ok(Held::Owned(operated(alloc, Op::Div, v.as_val(), &Val::Number(*n))?))
+            }
+            UnaryForm::Rem(n) => {
+                Ok(Held::Owned(operated(alloc, Op::Rem, v.as_val(), &Val::Number(*n))?))
+            }
             UnaryForm::First => Ok(v.into_first()),
             UnaryForm::Second => Ok(v.into_second()),
             UnaryForm::Layout(layout) => Ok(Held::Owned(self.layout(alloc, layout, v)?)),
@@ -368,6 +375,21 @@ impl World<'_> {
     }
 }
 
+// The consecutive pieces of four.
+#[tactic(auto, using(crate::proofs::Sizes::splits))]
+fn fours(v: &Val) -> Pieces<'_>
+    ensures { pieces_in result ≡ map array
+        (pieces (length (members (value_of v.now)) / 4) 4 4 (members (value_of v.now))) }
+{
+    let members = members_of(v);
+    Pieces {
+        members,
+        count: members.len() / 4,
+        size: 4,
+        step: 4,
+    }
+}
+
 // The value of a form at its children's values.
 #[tactic(auto, using(crate::proofs::Under::reductions))]
 fn binary(alloc: Global, form: BinaryForm, v: Held<'_>, u: Held<'_>) -> Result<Val, AllocError>
@@ -375,7 +397,7 @@ fn binary(alloc: Global, form: BinaryForm, v: Held<'_>, u: Held<'_>) -> Result<V
 {
     match form {
         BinaryForm::Operator(operator) => {
-            Ok(Val::Number(applied(operator, word_of(v.as_val()), word_of(u.as_val()))))
+            operated(alloc, word_operator(operator), v.as_val(), u.as_val())
         }
         BinaryForm::Pair => {
             let v = Box::new(alloc, v.into_owned(alloc)?)?;

@@ -1,6 +1,6 @@
 //! The patterns that lay out the members of lists anew.
 
-ghost use Rattle.std.specs.Prelude.{◌≡◌, ◌++◌, ◌∷◌, ◌<◌, [], ◌/◌, IfOk, OnOk, map, replicate, reverse, length, take, drop};
+ghost use Rattle.std.specs.Prelude.{◌≡◌, ◌++◌, ◌∷◌, ◌<◌, IfOk, OnOk, map, replicate, reverse, length, take, drop};
 ghost use Rattle.lift_tree.specs.Values.{Both, value_of, members, array, nth};
 ghost use Rattle.lift_tree.specs.Lists.{concat, zip_with, pieces, pieces_that_fit, padded, width, columns};
 ghost use Rattle.lift_tree.specs.Meaning.{rows, array_of_rows};

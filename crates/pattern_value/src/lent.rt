@@ -1,7 +1,7 @@
 //! Values that are owned, or lent where they are only read.
 
 ghost use Rattle.std.specs.Prelude.{◌≡◌, IfOk};
-ghost use Rattle.lift_tree.specs.Values.{value_of, Word, first, second};
+ghost use Rattle.lift_tree.specs.Values.{value_of, first, second};
 ghost use Rattle.pattern_value.specs.Held.{held};
 
 use crate::part::{copied, into_first, into_second};

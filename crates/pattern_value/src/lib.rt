@@ -2,6 +2,7 @@
 #![tactic(auto)]
 
 mod evaluate;
+mod lanes;
 mod layout;
 mod lent;
 mod operator;

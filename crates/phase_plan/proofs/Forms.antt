@@ -3,7 +3,7 @@ use Rattle.std.proofs.Common.{Bool, true, false}
 use Rattle.std.specs.Coded.{×_prop, Unit-prop}
 use Rattle.lift_ir.specs.Layouts.{IsInvertible, Layout, Slide, Pad}
 use Rattle.lift_ir.specs.Forms.{Stands}
-use Rattle.lift_ir.specs.Terms.{Term, Literal, Bound, Source, Apply, ApplyNumber, Select, Both, Project, Reshape, LetArray, LetElement, Map, Fold, Store, Copy, Global, WorkGroup, Local, Sequential, GlobalRows, WorkGroupRows, LocalRows, LocalMemory, PrivateMemory}
+use Rattle.lift_ir.specs.Terms.{Term, Literal, Bound, Source, Apply, ApplyNumber, ApplyLanes, DivideLanes, Select, Both, Project, Reshape, LetArray, LetElement, Map, Fold, Store, Copy, Global, WorkGroup, Local, Sequential, GlobalRows, WorkGroupRows, LocalRows, LocalMemory, PrivateMemory}
 use Rattle.group_form.specs.Forms.{IsOfInputs, StandsInGroup, StandsOverGroups}
 use Rattle.group_form.specs.GridTerms.{StandsAlongGroups, StandsAlongRow, StandsInGrid, StandsOverGrid}
 
@@ -21,6 +21,8 @@ stands_once true (Bound v) = never
 stands_once true (Source v) = never
 stands_once true (Apply o a b) = never
 stands_once true (ApplyNumber o n a) = never
+stands_once true (ApplyLanes o l r a b) = never
+stands_once true (DivideLanes o n a) = never
 stands_once true (Select c a b) = never
 stands_once true (Both z a b) = never
 stands_once true (Project s a) = never
@@ -42,6 +44,8 @@ stands_once false (Bound v) = Unit-prop
 stands_once false (Source v) = Unit-prop
 stands_once false (Apply o a b) = never
 stands_once false (ApplyNumber o n a) = never
+stands_once false (ApplyLanes o l r a b) = never
+stands_once false (DivideLanes o n a) = never
 stands_once false (Select c a b) = never
 stands_once false (Both z a b) = ×_prop (stands_once false a) (stands_once false b)
 stands_once false (Project s a) = stands_once false a
@@ -60,6 +64,8 @@ in_group_once true (Bound v) = never
 in_group_once true (Source v) = never
 in_group_once true (Apply o a b) = never
 in_group_once true (ApplyNumber o n a) = never
+in_group_once true (ApplyLanes o l r a b) = never
+in_group_once true (DivideLanes o n a) = never
 in_group_once true (Select c a b) = never
 in_group_once true (Both z a b) = never
 in_group_once true (Project s a) = never
@@ -81,6 +87,8 @@ in_group_once false (Bound v) = Unit-prop
 in_group_once false (Source v) = Unit-prop
 in_group_once false (Apply o a b) = never
 in_group_once false (ApplyNumber o n a) = never
+in_group_once false (ApplyLanes o l r a b) = never
+in_group_once false (DivideLanes o n a) = never
 in_group_once false (Select c a b) = never
 in_group_once false (Both true a b) = ×_prop (in_group_once false a) (in_group_once false b)
 in_group_once false (Both false a b) = never
@@ -100,6 +108,8 @@ of_inputs_once (Bound v) = Unit-prop
 of_inputs_once (Source v) = Unit-prop
 of_inputs_once (Apply o a b) = never
 of_inputs_once (ApplyNumber o n a) = never
+of_inputs_once (ApplyLanes o l r a b) = never
+of_inputs_once (DivideLanes o n a) = never
 of_inputs_once (Select c a b) = never
 of_inputs_once (Both true a b) = ×_prop (of_inputs_once a) (of_inputs_once b)
 of_inputs_once (Both false a b) = never
@@ -118,6 +128,8 @@ over_groups_once (Bound v) = never
 over_groups_once (Source v) = never
 over_groups_once (Apply o a b) = never
 over_groups_once (ApplyNumber o n a) = never
+over_groups_once (ApplyLanes o l r a b) = never
+over_groups_once (DivideLanes o n a) = never
 over_groups_once (Select c a b) = never
 over_groups_once (Both z a b) = never
 over_groups_once (Project s a) = never

@@ -2,7 +2,7 @@
 use Rattle.std.proofs.Common.{◌≡◌, ℕ, zero, suc, ◌+◌, Bool, true, false, List, [], ◌∷◌, ◌++◌, refl, ap, sym, ◌∙◌}
 use Rattle.std.specs.Prelude.{map}
 use Rattle.barrier_placement.specs.declared.touches.Touch.{Touch}
-use Rattle.lift_ir.specs.Terms.{LoadSet, Term, Literal, Bound, Source, Apply, ApplyNumber, Select, Both, Project, Reshape, LetArray, LetElement, Map, Fold, Store, Copy, push}
+use Rattle.lift_ir.specs.Terms.{LoadSet, Term, Literal, Bound, Source, Apply, ApplyNumber, ApplyLanes, DivideLanes, Select, Both, Project, Reshape, LetArray, LetElement, Map, Fold, Store, Copy, push}
 use Rattle.lift_ir.specs.Types.{width}
 use Rattle.printed_form.specs.Counts.{local_count}
 use Rattle.group_form.specs.Named.{Component, element_ways, named_outside}
@@ -91,6 +91,8 @@ mutual
   of_argument env k (Source v) = refl
   of_argument env k (Apply o a b) = refl
   of_argument env k (ApplyNumber o n a) = refl
+  of_argument env k (ApplyLanes o l r a b) = refl
+  of_argument env k (DivideLanes o n a) = refl
   of_argument env k (Select c a b) = refl
   of_argument env k (LetElement ty v b) = refl
   of_argument env k (Map kind n loads xs b) = refl
@@ -109,6 +111,8 @@ mutual
   of_written env k (Source v) d direct = refl
   of_written env k (Apply o a b) d direct = refl
   of_written env k (ApplyNumber o n a) d direct = refl
+  of_written env k (ApplyLanes o l r a b) d direct = refl
+  of_written env k (DivideLanes o n a) d direct = refl
   of_written env k (Select c a b) d direct = refl
   of_written env k (LetElement ty v b) d direct = refl
   of_written env k (Fold n loads ty xs s b) d direct = refl

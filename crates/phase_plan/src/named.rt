@@ -15,7 +15,7 @@ fn taken(alloc: Global, loads: &LoadSet) -> Result<Vec<Way>, AllocError>
 {
     match loads {
         LoadSet::Skip => Ok(Vec::new(alloc)),
-        LoadSet::Take => whole(alloc),
+        LoadSet::Take | LoadSet::TakeFour => whole(alloc),
         LoadSet::Each(first, second) => {
             let mut ways = after(alloc, false, &taken(alloc, first)?)?;
             add_after(alloc, true, &taken(alloc, second)?, &mut ways)?;
@@ -112,9 +112,14 @@ fn add_named(
             add_whole(alloc, a, all)?;
             add_whole(alloc, b, all)
         }
-        Term::ApplyNumber(_, _, a) | Term::Store(_, a) | Term::Copy(_, _, a) => {
-            add_whole(alloc, a, all)
+        Term::ApplyLanes { left, right, .. } => {
+            add_whole(alloc, left, all)?;
+            add_whole(alloc, right, all)
         }
+        Term::ApplyNumber(_, _, a)
+        | Term::DivideLanes(_, _, a)
+        | Term::Store(_, a)
+        | Term::Copy(_, _, a) => add_whole(alloc, a, all),
         Term::Select(condition, yes, no) => {
             add_whole(alloc, condition, all)?;
             add_whole(alloc, yes, all)?;

@@ -60,6 +60,8 @@ fn is_once(names: &Names, local: Option<(u32, u32)>, term: &Term) -> bool
         | Term::Source(_)
         | Term::Apply(_, _, _)
         | Term::ApplyNumber(_, _, _)
+        | Term::ApplyLanes { .. }
+        | Term::DivideLanes(_, _, _)
         | Term::Select(_, _, _)
         | Term::Pair(_, _)
         | Term::Zip(_, _)
@@ -84,6 +86,8 @@ fn is_once_along(names: &Names, local: Option<(u32, u32)>, term: &Term) -> bool
         | Term::Source(_)
         | Term::Apply(_, _, _)
         | Term::ApplyNumber(_, _, _)
+        | Term::ApplyLanes { .. }
+        | Term::DivideLanes(_, _, _)
         | Term::Select(_, _, _)
         | Term::Pair(_, _)
         | Term::Zip(_, _)
@@ -111,6 +115,8 @@ fn is_once_over(names: &Names, local: Option<(u32, u32)>, term: &Term) -> bool
         | Term::Source(_)
         | Term::Apply(_, _, _)
         | Term::ApplyNumber(_, _, _)
+        | Term::ApplyLanes { .. }
+        | Term::DivideLanes(_, _, _)
         | Term::Select(_, _, _)
         | Term::Pair(_, _)
         | Term::Zip(_, _)

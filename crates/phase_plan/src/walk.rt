@@ -61,7 +61,7 @@ fn laid(alloc: Global, ty: &Ty, end: &mut u32) -> Result<Origin, AllocError>
     ensures end { OnOk result (end.new ≡ end.old + width (ty_at [] (ty_of ty.now))) }
 {
     match ty {
-        Ty::Number => {
+        Ty::Number | Ty::Vector => {
             let array = *end;
             *end = next(array)?;
             Ok(Origin::Within(array, true))
@@ -175,6 +175,8 @@ impl Walk {
             | Term::Literal(_)
             | Term::Apply(_, _, _)
             | Term::ApplyNumber(_, _, _)
+            | Term::ApplyLanes { .. }
+            | Term::DivideLanes(_, _, _)
             | Term::Select(_, _, _)
             | Term::Pair(_, _)
             | Term::LetElement(_, _, _)
@@ -221,6 +223,8 @@ impl Walk {
             | Term::Source(_)
             | Term::Apply(_, _, _)
             | Term::ApplyNumber(_, _, _)
+            | Term::ApplyLanes { .. }
+            | Term::DivideLanes(_, _, _)
             | Term::Select(_, _, _)
             | Term::Pair(_, _)
             | Term::Zip(_, _)
@@ -263,6 +267,8 @@ impl Walk {
             | Term::Source(_)
             | Term::Apply(_, _, _)
             | Term::ApplyNumber(_, _, _)
+            | Term::ApplyLanes { .. }
+            | Term::DivideLanes(_, _, _)
             | Term::Select(_, _, _)
             | Term::Pair(_, _)
             | Term::Zip(_, _)
@@ -301,6 +307,8 @@ impl Walk {
             | Term::Source(_)
             | Term::Apply(_, _, _)
             | Term::ApplyNumber(_, _, _)
+            | Term::ApplyLanes { .. }
+            | Term::DivideLanes(_, _, _)
             | Term::Select(_, _, _)
             | Term::Pair(_, _)
             | Term::Zip(_, _)
@@ -331,6 +339,8 @@ impl Walk {
             | Term::Source(_)
             | Term::Apply(_, _, _)
             | Term::ApplyNumber(_, _, _)
+            | Term::ApplyLanes { .. }
+            | Term::DivideLanes(_, _, _)
             | Term::Select(_, _, _)
             | Term::Pair(_, _)
             | Term::Zip(_, _)

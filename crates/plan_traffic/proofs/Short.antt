@@ -1,7 +1,7 @@
 -- Loops are short in one way.
 use Rattle.std.specs.Coded.{×_prop, Unit-prop, le_prop}
 use Rattle.std.proofs.Common.{ℕ}
-use Rattle.lift_ir.specs.Terms.{Term, Literal, Bound, Source, Apply, ApplyNumber, Select, Both, Project, Reshape, LetArray, LetElement, Map, Fold, Store, Copy}
+use Rattle.lift_ir.specs.Terms.{Term, Literal, Bound, Source, Apply, ApplyNumber, ApplyLanes, DivideLanes, Select, Both, Project, Reshape, LetArray, LetElement, Map, Fold, Store, Copy}
 use Rattle.term_traffic.specs.Short.{HasShortLoops}
 
 three : {P Q R : Type 0} → IsProp P → IsProp Q → IsProp R → IsProp (P × Q × R)
@@ -21,5 +21,7 @@ short_once num (Bound v) = Unit-prop
 short_once num (Source v) = Unit-prop
 short_once num (Apply o a b) = Unit-prop
 short_once num (ApplyNumber o m a) = Unit-prop
+short_once num (ApplyLanes o l r a b) = Unit-prop
+short_once num (DivideLanes o m a) = Unit-prop
 short_once num (Select c a b) = Unit-prop
 short_once num (Store ty a) = Unit-prop

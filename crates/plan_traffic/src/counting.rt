@@ -63,8 +63,8 @@ pub fn traffic(plan: &Plan<'_>, launch: &Launch, item: u32) -> Traffic
     }
 }
 
-/// How many work-items from this one on, of an admissible launch, load and store as much as it does:
-/// at least itself, and none behind the last.
+/// How many work-items from this one on, of an admissible launch, load and store as much as it
+/// does: at least itself, and none behind the last.
 pub fn items_alike(plan: &Plan<'_>, launch: &Launch, item: u32) -> u32
     requires launch { IsLaunchFor plan.now launch.now }
     requires within { item < item_count launch.now }
@@ -114,6 +114,8 @@ fn row_turns(count: &Count, row: &Term) -> u64
         | Term::Source(_)
         | Term::Apply(_, _, _)
         | Term::ApplyNumber(_, _, _)
+        | Term::ApplyLanes { .. }
+        | Term::DivideLanes(_, _, _)
         | Term::Select(_, _, _)
         | Term::Pair(_, _)
         | Term::Zip(_, _)
@@ -153,6 +155,8 @@ fn turns(count: &Count, root: &Term) -> u64
         | Term::Source(_)
         | Term::Apply(_, _, _)
         | Term::ApplyNumber(_, _, _)
+        | Term::ApplyLanes { .. }
+        | Term::DivideLanes(_, _, _)
         | Term::Select(_, _, _)
         | Term::Pair(_, _)
         | Term::Zip(_, _)

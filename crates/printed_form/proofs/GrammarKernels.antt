@@ -6,9 +6,13 @@ use Rattle.kernel_tree.specs.Grammar.{is_group_size, largest_group}
 use Rattle.lift_tree.specs.Annotations.{type_in}
 use Rattle.lift_tree.specs.LocalSizes.{IsLocalSize}
 use Rattle.lift_ir.specs.AtLaunch.{shape_of}
+use Rattle.lift_ir.specs.Fours.{Whole, no_lie}
+use Rattle.printed_form.specs.Counts.{no_variables}
 use Rattle.printed_form.specs.Views.{placed_view}
+use Rattle.printed_form.specs.Sound.{variables_of}
 use Rattle.printed_form.specs.Printer.{no_view}
 use Rattle.printed_form.specs.Programs.{lowered_root, printed_kernel}
+use Rattle.printed_form.proofs.Runs.{at_most}
 use Rattle.printed_form.proofs.Lengths.{counted}
 use Rattle.printed_form.specs.KernelGrammar.{KernelsAreOfTheGrammar}
 use Rattle.printed_form.specs.GrammarPieces.{CanBePrinted}
@@ -30,7 +34,7 @@ of_the_grammar spell S M d local t a h =
     let terms = terms_printed k spell S M d (record { some = h.some; fits = h.fits; inputs = refl }) in
     let deep = h.loops in
     let privates = counted r in
-    let can : CanBePrinted k spell S M d (λ v. 0) 0 0 0 0 r = record { written = h.written; sound = h.sound; layouts = h.layouts; low = h.low; deep = omega arith; variables = omega arith; privates = omega arith } in
+    let can : CanBePrinted k spell S M d (λ v. 0) no_lie Whole 0 0 no_variables 0 r = record { written = h.written; sound = h.sound; layouts = h.layouts; low = h.low; fours = h.fours; deep = omega arith; variables = at_most (omega arith) (omega arith); privates = omega arith } in
     let out = terms.output ty refl h.lengths h.few in
-    terms.kernel ty r refl refl refl h.sound (is_size local h.size) (terms.statements 0 0 0 0 0 (λ v. 0) no_view r w End out can)
-    (terms.codes 0 0 0 0 0 (λ v. 0) no_view r w End (λ v. blank_good k S h.some k.variables 0 (8 + 3 * 0)) out can refl)
+    terms.kernel ty r refl refl refl h.sound (is_size local h.size) (terms.statements 0 0 0 no_variables 0 (λ v. 0) no_lie Whole no_view r w End out can)
+    (terms.codes 0 0 0 no_variables 0 (λ v. 0) no_lie Whole no_view r w End (λ v. blank_good k S h.some (variables_of k) 0 (10 + 3 * 0)) out (λ v. tt) (λ cs is. refl) can refl)

@@ -9,16 +9,18 @@ use Rattle.kernel_tree.specs.Formula.{Formula}
 use Rattle.kernel_tree.specs.Code.{Input, Output, Kernel}
 use Rattle.kernel_tree.specs.Grammar.{are_lengths, has_statement, is_group_size}
 use Rattle.lift_ir.specs.Types.{Ty, width, size}
-use Rattle.lift_ir.specs.Terms.{Space, LocalMemory, PrivateMemory, Term, Literal, Bound, Source, Apply, ApplyNumber, Select, Both, Project, Reshape, LetArray, LetElement, Map, Fold, Store, Copy}
+use Rattle.lift_ir.specs.Terms.{Space, LocalMemory, PrivateMemory, Term, Literal, Bound, Source, Apply, ApplyNumber, ApplyLanes, DivideLanes, Select, Both, Project, Reshape, LetArray, LetElement, Map, Fold, Store, Copy}
 use Rattle.printed_form.specs.Counts.{copied, copy_lengths}
-use Rattle.printed_form.specs.Views.{View, view_at, operand_indices, result_indices, placed_view}
+use Rattle.printed_form.specs.Views.{View, view_at, reshaped_view, rewritten_view, placed_view}
 use Rattle.printed_form.specs.Programs.{buffer_count, first_buffer, input_shape}
-use Rattle.printed_form.specs.Sound.{IsSpelledIn, IsSound, dimensions}
+use Rattle.printed_form.specs.Sound.{variables_of, IsSpelledIn, IsSound, dimensions}
 use Rattle.printed_form.specs.GrammarViews.{IsGoodView}
 use Rattle.printed_form.specs.KernelGrammar.{IsSourceIn}
 use Rattle.printed_form.specs.GrammarPieces.{ViewsStayWithin, MapsAreOfTheGrammar, HasRoomFor, views_of_inputs, TermsAreOfTheGrammar, TermsArePrintedWithin, ArraysCanBeDeclared}
 use Rattle.printed_form.proofs.GrammarExpressions.{first_of, second_of}
 use Rattle.printed_form.proofs.GrammarViews.{view_more, target_within, blank_good, sides_good, part_good, at_turn_good, at_turn_target, loaded_good, reshaped_good, reshaped_target, placed_good, placed_target, some_width, laid_reads, laid_fills}
+use Rattle.printed_form.proofs.Runs.{as_many}
+use Rattle.printed_form.proofs.GrammarLies.{AllShared, lies_served, lies_at_turn, lies_bound, lies_laid, lies_read, lies_written, argument_lies}
 use Rattle.printed_form.proofs.GrammarCodes.{loads_fine, loads_does, loop_fine, guard_fine}
 use Rattle.printed_form.proofs.GrammarTerms.{argument_good, written_kept, written_does, written_fine}
 
@@ -47,6 +49,8 @@ module _ {A : Type 0} (P : A → Type 0) (Q : ℕ → Type 0) where
   declared_lengths s (Source v) h = refl
   declared_lengths s (Apply o x y) h = refl
   declared_lengths s (ApplyNumber o m x) h = refl
+  declared_lengths s (ApplyLanes o i j x y) h = refl
+  declared_lengths s (DivideLanes o m x) h = refl
   declared_lengths s (Select c x y) h = refl
   declared_lengths s (Both zips x y) h = lengths_append (copy_lengths s x) (copy_lengths s y) (declared_lengths s x h.0) (declared_lengths s y h.1)
   declared_lengths s (Project d x) h = declared_lengths s x h
@@ -70,27 +74,33 @@ source_within (a ∷ tys) (suc s) lt = let x = source_within tys s (omega arith)
 -- ---- views
 pub views_stay : ViewsStayWithin
 views_stay k S one = record {
-  more = λ l m h i x lm hi r. view_more k S one k.variables k.variables l m (8 + 3 * h) (8 + 3 * i) x (omega arith) lm (omega arith) r;
-  deeper = λ l m h i w lm hi f. target_within k S one l m (8 + 3 * h) (8 + 3 * i) w lm (omega arith) f;
-  blank = λ l h. blank_good k S one k.variables l (8 + 3 * h);
-  sides = λ l h x y r q. sides_good k S one k.variables l (8 + 3 * h) x y r q;
-  part = λ l h x s r. part_good k S one k.variables l (8 + 3 * h) x s r;
+  more = λ l m h i x lm hi r. view_more k S one (variables_of k) (variables_of k) l m (10 + 3 * h) (10 + 3 * i) x (as_many (variables_of k)) lm (omega arith) r;
+  deeper = λ l m h i w lm hi f. target_within k S one l m (10 + 3 * h) (10 + 3 * i) w lm (omega arith) f;
+  blank = λ l h. blank_good k S one (variables_of k) l (10 + 3 * h);
+  sides = λ l h x y r q. sides_good k S one (variables_of k) l (10 + 3 * h) x y r q;
+  part = λ l h x s r. part_good k S one (variables_of k) l (10 + 3 * h) x s r;
   operand = λ spell y l h x s r.
-      view_more k S one k.variables k.variables l l (8 + 3 * h + 3) (8 + 3 * suc h) (λ cs is. x cs (operand_indices spell y is)) (omega arith) (omega arith) (omega arith)
-      (reshaped_good k S one spell y k.variables l (8 + 3 * h) x s r);
+      view_more k S one (variables_of k) (variables_of k) l l (10 + 3 * h + 3) (10 + 3 * suc h) (reshaped_view spell y x) (as_many (variables_of k)) (omega arith) (omega arith)
+      (reshaped_good k S one spell y (variables_of k) l (10 + 3 * h) x s r);
   result = λ spell y l h w s f.
-      target_within k S one l l (8 + 3 * h + 3) (8 + 3 * suc h) (λ cs is. w cs (result_indices spell y is)) (omega arith) (omega arith) (reshaped_target k S one spell y l (8 + 3 * h) w s f);
-  element = λ turn loads l h n x t le r. loaded_good k S one loads (view_at turn x) n k.variables k.variables l (8 + 3 * h) (omega arith) le (at_turn_good k S one turn k.variables l (8 + 3 * h) x t r);
-  read = λ turn l h x t r. at_turn_good k S one turn k.variables l (8 + 3 * h) x t r;
-  place = λ turn l h w t f. at_turn_target k S one turn l (8 + 3 * h) w t f;
+      target_within k S one l l (10 + 3 * h + 3) (10 + 3 * suc h) (rewritten_view spell y w) (omega arith) (omega arith) (reshaped_target k S one spell y l (10 + 3 * h) w s f);
+  element = λ turn loads l h n x t le r. loaded_good k S one loads (view_at turn x) n (variables_of k) (variables_of k) l (10 + 3 * h) (as_many (variables_of k)) le (at_turn_good k S one turn (variables_of k) l (10 + 3 * h) x t r);
+  read = λ turn l h x t r. at_turn_good k S one turn (variables_of k) l (10 + 3 * h) x t r;
+  place = λ turn l h w t f. at_turn_target k S one turn l (10 + 3 * h) w t f;
   laid = laid_reads k S one;
   laid_places = laid_fills k S one;
+  served = lies_served;
+  read_so = λ spell m y x h. lies_read spell m y x h;
+  written_so = λ spell m y w h. lies_written spell m y w h;
+  at_turn = lies_at_turn;
+  bound_so = lies_bound;
+  laid_so = lies_laid;
 }
 
 -- ---- statements of maps
 pub maps_stay : MapsAreOfTheGrammar
 maps_stay k S one small = record {
-  loads = λ l ifs h n loads x rest fits le r f. loads_fine k S one small ifs l loads x n k.variables (8 + 3 * h) rest fits le r f;
+  loads = λ l ifs h n loads x y rest fits le r sh fo f. loads_fine k S one small ifs l loads x n (variables_of k) (10 + 3 * h) y rest fits le r sh fo f;
   loaded = λ loads x n rest d. loads_does k S one small 0 loads x n rest d;
   loop = λ l ifs kind bound body rest lt s d f g. loop_fine k S one small ifs l kind bound body rest lt s d f g;
   guard = λ l ifs kind bound body rest lt s d f g. guard_fine k S one small ifs l kind bound body rest lt s d f g;
@@ -104,24 +114,30 @@ module _ (k : Kernel) (spell : List Monomial → Formula) (S M : ℕ) (d : Decla
   abbrev Q : ℕ → Type 0
   Q = IsSourceIn k spell S d
 
-  inputs : (s : ℕ) → Q s → IsGoodView k S k.variables 0 8 (ins s)
+  inputs : (s : ℕ) → Q s → IsGoodView k S (variables_of k) 0 10 (ins s)
   inputs s q =
-      view_more k S room.some k.variables k.variables 0 0 (2 * dimensions (input_shape d.inputs s)) 8 (ins s) (omega arith) (omega arith) (let x = q.few in omega arith)
-      (placed_good k S room.some spell Input (first_buffer d.inputs s) (input_shape d.inputs s) k.variables 0
+      view_more k S room.some (variables_of k) (variables_of k) 0 0 (2 * dimensions (input_shape d.inputs s)) 10 (ins s) (as_many (variables_of k)) (omega arith) (let x = q.few in omega arith)
+      (placed_good k S room.some spell Input (first_buffer d.inputs s) (input_shape d.inputs s) (variables_of k) 0
       (λ c lt. lt-ltb (first_buffer d.inputs s + c) k.inputs (let x = source_within d.inputs s q.declared in let y = room.inputs in omega arith)) q.lengths)
+
+  -- inputs are shared
+  shared : (s : ℕ) → AllShared (ins s)
+  shared s cs is = refl
 
   small : S ≤ 1024
   small = let f = room.fits in omega arith
 
   terms_are : TermsAreOfTheGrammar k spell S M d
   terms_are = record {
-    arguments = λ space l a g env t all s le. argument_good k S room.some small 0 spell ins Q inputs M room.fits space l g env a t all le s;
+    arguments = λ space l a g env t all s le. argument_good k S room.some small 0 spell ins Q inputs M room.fits shared space l g env a t all le s;
+    lying = λ space first lies env t y all h. argument_lies spell ins shared space first lies env t y all h;
     output = λ ty outs s few.
-        target_within k S room.some 0 0 (2 * dimensions ty) (8 + 3 * 0) (placed_view spell Output 0 ty) (omega arith) (omega arith)
+        target_within k S room.some 0 0 (2 * dimensions ty) (10 + 3 * 0) (placed_view spell Output 0 ty) (omega arith) (omega arith)
         (placed_target k S room.some spell Output 0 ty 0 (λ c lt. lt-ltb (0 + c) k.outputs (omega arith)) s);
-    codes = λ l ifs above n a g env t w rest all f c r. written_fine k S room.some small ifs spell ins Q inputs M room.fits l g env a n t w above rest all f c.written c.sound c.layouts c.low c.deep c.variables c.privates r;
-    statements = λ l depth above n a g env t w rest f c. written_does k S room.some small 0 spell ins Q inputs M room.fits l env a n t w (8 + 3 * above) rest c.written c.sound f;
-    kept = λ l n a env t w rest r. written_kept k S room.some small 0 spell ins Q inputs M room.fits l env a n t w rest r;
+    codes = λ l ifs above n a g lies lie env t w rest all f sh ys c r.
+        written_fine k S room.some small ifs spell ins Q inputs M room.fits shared l g lies env a n t w lie above rest all f sh ys c.written c.sound c.layouts c.low c.fours c.deep c.variables c.privates r;
+    statements = λ l depth above n a g lies lie env t w rest f c. written_does k S room.some small 0 spell ins Q inputs M room.fits shared l env a n t w (10 + 3 * above) rest c.written c.sound f;
+    kept = λ l n a env t w rest r. written_kept k S room.some small 0 spell ins Q inputs M room.fits shared l env a n t w rest r;
     kernel = λ ty t outs locals privates s group has are.
         and_from (nat_lt 0 k.outputs) _ (lt-ltb 0 k.outputs (let x = some_width k S room.some spell ty in omega arith))
         (and_from (are_lengths k.locals) _ (subst (λ ns. are_lengths ns ≡ true) (sym locals) (arrays_declared k spell S d LocalMemory t s))

@@ -2,20 +2,20 @@
 use Rattle.std.proofs.Common.{◌≡◌, ℕ, suc, ◌+◌, ◌*◌, ◌-◌, ◌/◌, ◌%◌, ◌<◌, ◌≤◌, ◌^◌, Bool, true, false, List, [], ◌∷◌, ◌++◌, Some, None, refl, sym, ap, ◌∙◌, subst, arith}
 use Rattle.std.specs.Prelude.{min, max, if◌then◌else◌, ◌==◌, ◌&&◌, Option}
 use Rattle.std.proofs.lemmas.Bool.{ne_eqb, eqb-true}
-use Rattle.std.proofs.Math.Nat.{mod-eq_of_lt, mul-le-mul_right, mul-le-mul_left, mod-lt, mod-add-div'}
+use Rattle.std.proofs.Math.Nat.{mod-eq_of_lt, mul-le-mul_right, mul-le-mul_left, mul-div_cancel, mul-div_cancel_left, mod-lt, mod-add-div'}
 use Rattle.scalar_ops.specs.declared.op.Op.{Op}
 use Rattle.scalar_ops.specs.declared.op.Op.TheVariants.{Add, Sub, Mul, Min, Max, Div, Rem}
 use Rattle.scalar_ops.specs.Operators.{apply_op}
 use Rattle.kernel_tree.specs.declared.tree.Dimension.{Dimension}
 use Rattle.kernel_tree.specs.declared.tree.Dimension.TheVariants.{X, Y}
-use Rattle.kernel_tree.specs.Formula.{IdForm, GlobalId, GroupId, LocalId, GlobalSize, GroupCount, LocalSize, Formula, Number, LoopVariable, Size, Id, Binary, divides, operate, with_both, value}
+use Rattle.kernel_tree.specs.Formula.{IdForm, GlobalId, GroupId, LocalId, GlobalSize, GroupCount, LocalSize, Formula, Number, LoopVariable, Size, Id, Binary, divides, operate, with_both, value, no_vars}
 use Rattle.kernel_tree.specs.Code.{Array}
 use Rattle.kernel_tree.specs.Launch.{Launch, ids_of}
 use Rattle.lift_ir.specs.Types.{Ty, Scalar, PairOf, ArrayOf, IsPosition, IsFlat, IsShort, width, component, size, flat, Shape, measured}
 use Rattle.lift_ir.specs.Layouts.{HasWordStep, Layout, Split, Join, Transpose, Reverse, Slide, Pad, operand_position, Reshapes, result_position, IsInvertible}
-use Rattle.printed_form.specs.Marks.{laid_in}
-use Rattle.printed_form.specs.Views.{same_operator, same_dimension, same_id_form, same_formula, are_parts, dividend, cell_in_rows, operand_indices, result_indices, laid_view, index_from, index_in, placed_view}
-use Rattle.printed_form.specs.Means.{IsSpelled, Means, AllMean, HasCells}
+use Rattle.printed_form.specs.Marks.{Spot, laid_in}
+use Rattle.printed_form.specs.Views.{same_operator, same_dimension, same_id_form, same_formula, are_parts, dividend, cell_in_rows, row_number, operand_indices, result_indices, laid_view, index_from, index_in, placed_view}
+use Rattle.printed_form.specs.Means.{IsSpelled, IsOuter, Means, AllMean, HasCells, IsWhole}
 use Rattle.lift_ir.proofs.Positions.{operand_in}
 use Rattle.lift_ir.proofs.Numbers.{flat_below}
 
@@ -28,7 +28,7 @@ operate_by o u n h = let e : (n == 0) ≡ false = ne_eqb n 0 (λ q. absurd (omeg
     go false = refl
 
 module _ (l : Launch) (item : ℕ) {A : Type 0} (num : A → ℕ) (spell : A → Formula) (spelled : (n : A) → num n < 2 ^ 31 → IsSpelled l (spell n) (num n)) where
-  means_number : (ts : List ℕ) (n : ℕ) → n < 2 ^ 32 → Means l item ts (Number n) n
+  pub means_number : (ts : List ℕ) (n : ℕ) → n < 2 ^ 32 → Means l item ts (Number n) n
   means_number ts n lt = record { fits = lt; always = λ vs. refl }
 
   pub means_spell : (ts : List ℕ) (n : A) → num n < 2 ^ 31 → Means l item ts (spell n) (num n)
@@ -109,7 +109,7 @@ module _ (l : Launch) (item : ℕ) {A : Type 0} (num : A → ℕ) (spell : A →
       turned = omega arith
 
   -- the index of a column in a row
-  means_cell : (ts : List ℕ) (f g h : Formula) (i j m n : ℕ) → 0 < m → Means l item ts f i → Means l item ts g m → Means l item ts h j → i * m + j < n → n ≤ 2 ^ 32 → Means l item ts (cell_in_rows f g h) (i * m + j)
+  pub means_cell : (ts : List ℕ) (f g h : Formula) (i j m n : ℕ) → 0 < m → Means l item ts f i → Means l item ts g m → Means l item ts h j → i * m + j < n → n ≤ 2 ^ 32 → Means l item ts (cell_in_rows f g h) (i * m + j)
   means_cell ts f g h i j m n pos a c b lt fn = go (are_parts f g h) refl
     where
       go : (z : Bool) → are_parts f g h ≡ z → Means l item ts (if z then dividend f else Binary Add (Binary Mul f g) h) (i * m + j)
@@ -122,6 +122,27 @@ module _ (l : Launch) (item : ℕ) {A : Type 0} (num : A → ℕ) (spell : A →
                 (ap (with_both (operate Div) (value (ids_of l item) ts vs (dividend f))) (sym (c.always vs)) ∙ ap (value (ids_of l item) ts vs) (sym p.0) ∙ a.always vs)
                 (ap (with_both (operate Rem) (value (ids_of l item) ts vs (dividend f))) (sym (c.always vs)) ∙ ap (value (ids_of l item) ts vs) (sym p.1) ∙ b.always vs);
           }
+
+  -- the number of a row, by its first cell's
+  pub means_row : (ts : List ℕ) (f g h : Formula) (i m k : ℕ) → 0 < m → i * m < 2 ^ 32 → Means l item ts f i → Means l item ts g m → Means l item ts h (m * k) → Means l item ts (row_number f g h) k
+  means_row ts f g h i m k pos small a c b = go (same_formula h (Binary Add (Binary Mul f g) (Number 0))) refl
+    where
+      over : m * k / m ≡ k
+      over = mul-div_cancel_left k pos
+
+      below : k ≤ m * k
+      below = let z = mul-le-mul_right {m = 1} {n = m} k pos in omega arith
+
+      same : m * k ≡ i * m + 0 → i ≡ k
+      same e = sym (mul-div_cancel i pos) ∙ ap (λ z. z / m) (let z : i * m ≡ m * k = omega arith in z) ∙ over
+
+      go : (z : Bool) → same_formula h (Binary Add (Binary Mul f g) (Number 0)) ≡ z → Means l item ts (if z then f else Binary Div h g) k
+      go false e = means_by ts Div h g (m * k) m k pos b c over (let z = b.fits in let y = below in omega arith)
+      go true e =
+          let d = means_step ts f g (Number 0) i 0 m (2 ^ 32) a c (means_number ts 0 (omega arith)) (omega arith) (omega arith) in
+          let is = formula_is h (Binary Add (Binary Mul f g) (Number 0)) e in
+          let q : m * k ≡ i * m + 0 = some_is (m * k) (i * m + 0) (sym (b.always no_vars) ∙ ap (value (ids_of l item) ts no_vars) is ∙ d.always no_vars) in
+          subst (λ z. Means l item ts f z) (same q) a
 
   less : (x y : ℕ) → y ≤ x → x < 2 ^ 32 → (x + (2 ^ 32 - y)) % 2 ^ 32 ≡ x - y
   less x y le fx = omega arith
@@ -141,7 +162,7 @@ module _ (l : Launch) (item : ℕ) {A : Type 0} (num : A → ℕ) (spell : A →
       let z = means_op ts Sub (spell k) (Number 1) n 1 (n - 1) refl (means_spell ts k small) (means_number ts 1 (omega arith)) (less n 1 (omega arith) (omega arith)) (omega arith) in
       means_op ts Sub (Binary Sub (spell k) (Number 1)) f (n - 1) i (n - 1 - i) refl z h (less (n - 1) i (omega arith) (omega arith)) (omega arith)
 
-  means_parts : (ts : List ℕ) (f : Formula) (i : ℕ) (z : A) → Means l item ts f i → 0 < num z → num z < 2 ^ 31 → Means l item ts (Binary Div f (spell z)) (i / num z) × Means l item ts (Binary Rem f (spell z)) (i % num z)
+  pub means_parts : (ts : List ℕ) (f : Formula) (i : ℕ) (z : A) → Means l item ts f i → 0 < num z → num z < 2 ^ 31 → Means l item ts (Binary Div f (spell z)) (i / num z) × Means l item ts (Binary Rem f (spell z)) (i % num z)
   means_parts ts f i z a pos lt =
       let m = num z in
       let s = means_spell ts z lt in
@@ -307,3 +328,89 @@ module _ (l : Launch) (item : ℕ) {A : Type 0} (num : A → ℕ) (spell : A →
 
   pub placed_cells : (ts : List ℕ) (form : ℕ → Array) (first : ℕ) (t : Shape A) → IsFlat (measured num t) → IsShort (measured num t) → size (measured num t) < 2 ^ 31 → HasCells l item ts (measured num t) (placed_view spell form first t) (laid_in form first (measured num t))
   placed_cells ts form first t e sh small us cs is q w g = (ap (λ c. form (first + c)) (sym (component_same t cs)), shape_flat_means (ts ++ us) t cs is q e sh small w g)
+
+  -- some of the outermost arrays
+
+  pub outer_flat : (o t : Ty) → IsOuter o t → IsFlat o
+  outer_flat Scalar t u = tt
+  outer_flat (ArrayOf n o) (ArrayOf m t) u = outer_flat o t u.1
+  outer_flat _ _ u = absurd (assumption)
+
+  outer_size : (o t : Ty) → IsOuter o t → size o ≤ size t
+  outer_size Scalar t u = u
+  outer_size (ArrayOf n o) (ArrayOf m t) u = let h = mul-le-mul_left {m = size o} {n = size t} n (outer_size o t u.1) in let e = ap (λ z. z * size t) u.0 in omega arith
+  outer_size _ _ u = absurd (assumption)
+
+  no_index : (f : Formula) (t : Shape A) → index_from spell f t [] ≡ f
+  no_index f Scalar = refl
+  no_index f (PairOf a b) = refl
+  no_index f (ArrayOf n t) = refl
+
+  no_place : (t : Shape A) → index_in spell t [] ≡ Number 0
+  no_place Scalar = refl
+  no_place (PairOf a b) = refl
+  no_place (ArrayOf n t) = refl
+
+  outer_from : (ts : List ℕ) (f : Formula) (i n : ℕ) (o : Ty) (t : Shape A) (cs : List Bool) (is : List Formula) (q : List ℕ) → IsOuter o (measured num t) → IsShort (measured num t) → IsPosition o cs q → Means l item ts f i → flat_from i o q < n → n ≤ 2 ^ 32 → AllMean l item ts is q → Means l item ts (index_from spell f t is) (flat_from i o q)
+  outer_from ts f i n Scalar t [] [] [] u sh w a lt fn g = subst (λ z. Means l item ts z i) (sym (no_index f t)) a
+  outer_from ts f i n Scalar t [] (h ∷ fs) [] u sh w a lt fn g = absurd g
+  outer_from ts f i n Scalar t [] is (j ∷ q) u sh w a lt fn g = absurd w
+  outer_from ts f i n Scalar t (c ∷ cs) is q u sh w a lt fn g = absurd w
+  outer_from ts f i n (ArrayOf k o) (ArrayOf m t) cs is [] u sh w a lt fn g = absurd w
+  outer_from ts f i n (ArrayOf k o) (ArrayOf m t) cs [] (j ∷ q) u sh w a lt fn g = absurd g
+  outer_from ts f i n (ArrayOf k o) (ArrayOf m t) cs (h ∷ fs) (j ∷ q) u sh w a lt fn g =
+      let x = i * k + j in
+      let flat_o = outer_flat o (measured num t) u.1 in
+      let long = flat_long x o cs q flat_o w.1 in
+      let more = mul-le-mul_left {m = 1} {n = size o} x (size_pos o cs q flat_o w.1) in
+      outer_from ts (Binary Add (Binary Mul f (spell m)) h) x n o t cs fs q u.1 sh.1 w.1
+      (subst (λ z. Means l item ts (Binary Add (Binary Mul f (spell m)) h) (i * z + j)) (sym u.0) (means_step ts f (spell m) h i j (num m) n a (means_spell ts m sh.0) g.0 (subst (λ z. i * z + j < n) u.0 (omega arith)) fn)) lt fn g.1
+  outer_from ts f i n (PairOf a b) t cs is q u sh w p lt fn g = absurd u
+  outer_from ts f i n (ArrayOf k o) Scalar cs is q u sh w p lt fn g = absurd u
+  outer_from ts f i n (ArrayOf k o) (PairOf a b) cs is q u sh w p lt fn g = absurd u
+
+  pub outer_means : (ts : List ℕ) (o : Ty) (t : Shape A) (cs : List Bool) (is : List Formula) (q : List ℕ) → IsOuter o (measured num t) → IsShort (measured num t) → size (measured num t) < 2 ^ 31 → IsPosition o cs q → AllMean l item ts is q → Means l item ts (index_in spell t is) (flat o q)
+  outer_means ts Scalar t [] [] [] u sh small w g = subst (λ z. Means l item ts z 0) (sym (no_place t)) (means_number ts 0 (omega arith))
+  outer_means ts Scalar t [] (h ∷ fs) [] u sh small w g = absurd g
+  outer_means ts Scalar t [] is (j ∷ q) u sh small w g = absurd w
+  outer_means ts Scalar t (c ∷ cs) is q u sh small w g = absurd w
+  outer_means ts (ArrayOf n o) (ArrayOf m t) cs is [] u sh small w g = absurd w
+  outer_means ts (ArrayOf n o) (ArrayOf m t) cs [] (i ∷ q) u sh small w g = absurd g
+  outer_means ts (ArrayOf n o) (ArrayOf m t) cs (f ∷ fs) (i ∷ q) u sh small w g =
+      let flat_o = outer_flat o (measured num t) u.1 in
+      let long = flat_long i o cs q flat_o w.1 in
+      let below = flat_below (ArrayOf n o) cs (i ∷ q) flat_o w in
+      let less = outer_size (ArrayOf n o) (measured num (ArrayOf m t)) u in
+      subst (Means l item ts (index_in spell (ArrayOf m t) (f ∷ fs))) long (outer_from ts f i (2 ^ 32) o t cs fs q u.1 sh.1 w.1 g.0 (omega arith) (omega arith) g.1)
+  outer_means ts (PairOf a b) t cs is q u sh small w g = absurd u
+  outer_means ts (ArrayOf k o) Scalar cs is q u sh small w g = absurd u
+  outer_means ts (ArrayOf k o) (PairOf a b) cs is q u sh small w g = absurd u
+
+  no_choice : (t : Shape A) → component t [] ≡ 0
+  no_choice Scalar = refl
+  no_choice (PairOf a b) = refl
+  no_choice (ArrayOf n t) = no_choice t
+
+  outer_choice : (o : Ty) (t : Ty) (cs : List Bool) (q : List ℕ) → IsOuter o t → IsPosition o cs q → cs ≡ []
+  outer_choice Scalar t [] q u w = refl
+  outer_choice Scalar t (c ∷ cs) q u w = absurd w
+  outer_choice (ArrayOf n o) (ArrayOf m t) cs [] u w = absurd w
+  outer_choice (ArrayOf n o) (ArrayOf m t) cs (i ∷ q) u w = outer_choice o t cs q u.1 w.1
+  outer_choice (PairOf a b) t cs q u w = absurd u
+  outer_choice (ArrayOf k o) Scalar cs q u w = absurd u
+  outer_choice (ArrayOf k o) (PairOf a b) cs q u w = absurd u
+
+  -- a value laid in arrays lies whole
+  pub placed_whole : (ts : List ℕ) (form : ℕ → Array) (first : ℕ) (t : Shape A) → IsShort (measured num t) → size (measured num t) < 2 ^ 31 → IsWhole l item ts (measured num t) (placed_view spell form first t) (laid_in form first (measured num t))
+  placed_whole ts form first t sh small = record {
+    array = form (first + component (measured num t) []);
+    before = 0;
+    lies = λ q w. ap (λ n. Spot (form (first + component (measured num t) [])) n) (zero_before (size (measured num t)) (flat (measured num t) q));
+    shows = λ o u us cs is q w g. (
+      ap (λ c. form (first + c)) (ap (component t) (outer_choice o (measured num t) cs q u w) ∙ sym (component_same t [])),
+      subst (Means l item (ts ++ us) (index_in spell t is)) (zero_before (size o) (flat o q)) (outer_means (ts ++ us) o t cs is q u sh small w g),
+    );
+  }
+    where
+      zero_before : (s f : ℕ) → f ≡ 0 * s + f
+      zero_before s f = omega arith

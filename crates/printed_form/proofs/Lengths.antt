@@ -9,7 +9,7 @@ use Rattle.lift_tree.proofs.Members.{length-map}
 use Rattle.kernel_tree.specs.Code.{Array, Private}
 use Rattle.kernel_tree.specs.Device.{row}
 use Rattle.lift_ir.specs.Types.{width, size}
-use Rattle.lift_ir.specs.Terms.{LocalMemory, PrivateMemory, Term, Literal, Bound, Source, Apply, ApplyNumber, Select, Both, Project, Reshape, LetArray, LetElement, Map, Fold, Store, Copy}
+use Rattle.lift_ir.specs.Terms.{LocalMemory, PrivateMemory, Term, Literal, Bound, Source, Apply, ApplyNumber, ApplyLanes, DivideLanes, Select, Both, Project, Reshape, LetArray, LetElement, Map, Fold, Store, Copy}
 use Rattle.printed_form.specs.Counts.{private_count, copy_lengths}
 use Rattle.printed_form.specs.Form.{Declares}
 
@@ -23,6 +23,8 @@ counted (Bound v) = refl
 counted (Source v) = refl
 counted (Apply o a b) = refl
 counted (ApplyNumber o n a) = refl
+counted (ApplyLanes o l r a b) = refl
+counted (DivideLanes o n a) = refl
 counted (Select c a b) = refl
 counted (Both zips a b) = joined (private_count a) (private_count b) (copy_lengths PrivateMemory a) (copy_lengths PrivateMemory b) (counted a) (counted b)
 counted (Project s a) = counted a
@@ -55,6 +57,8 @@ declares long a (Bound v) h = tt
 declares long a (Source v) h = tt
 declares long a (Apply o x y) h = tt
 declares long a (ApplyNumber o n x) h = tt
+declares long a (ApplyLanes o l r x y) h = tt
+declares long a (DivideLanes o n x) h = tt
 declares long a (Select c x y) h = tt
 declares long a (Both zips x y) h = (declares long a x (long_left Private long a (copy_lengths PrivateMemory x) (copy_lengths PrivateMemory y) h), declares long (a + private_count x) y (long_right Private long a (private_count x) (copy_lengths PrivateMemory x) (copy_lengths PrivateMemory y) (counted x) h))
 declares long a (Project s x) h = declares long a x h

@@ -12,6 +12,8 @@ pub mod Whole
 pub mod Theorem
 pub mod Indices
 pub mod Shown
+pub mod Lies
+pub mod Held
 pub mod Arguments
 pub mod Printer
 pub mod Alike
@@ -19,9 +21,11 @@ pub mod SameRuns
 pub mod GoAlike
 pub mod Lengths
 pub mod Printed
+pub mod VectorIndices
 pub mod Programs
 pub mod GrammarExpressions
 pub mod GrammarViews
+pub mod GrammarLies
 pub mod GrammarCodes
 pub mod GrammarTerms
 pub mod GrammarPieces

@@ -13,16 +13,17 @@ use Rattle.kernel_tree.proofs.Independent.{written-append}
 use Rattle.kernel_tree.proofs.Turns.{every-append}
 use Rattle.lift_ir.specs.Types.{Ty, ArrayOf, IsPosition}
 use Rattle.lift_ir.specs.Scalars.{Scalars, at_index}
-use Rattle.printed_form.specs.Marks.{Mark, Spot, Register, Nowhere, Marks}
+use Rattle.printed_form.specs.Counts.{Count, AtMost}
+use Rattle.printed_form.specs.Marks.{Mark, Spot, Register, Lane, Nowhere, Marks}
 use Rattle.printed_form.specs.Runs.{Setting, Known, IsOpen, IsBetween, Scratch, mark_cell, Later, DueAt, Due, Targets, Wrote, known_after, Ran, Apart}
-use Rattle.printed_form.proofs.Runs.{kept_less, filled_more, later_same, later_on, silent, wrote_on, agrees_on, before_silence}
+use Rattle.printed_form.proofs.Runs.{as_many, kept_less, filled_more, later_same, later_on, silent, wrote_on, agrees_on, before_silence}
 
 -- what is known, with another memory and other variables
 abbrev pub at : Known → Memory → Vars → Known
 at x m vars = record { memory = m; vars = vars; count = x.count; arrays = x.arrays }
 
 -- counted from fewer variables and arrays
-abbrev pub from : Known → (count arrays : ℕ) → Known
+abbrev pub from : Known → (count : Count) → (arrays : ℕ) → Known
 from x n a = record { memory = x.memory; vars = x.vars; count = n; arrays = a }
 
 -- lists that are the same go on the same way
@@ -30,15 +31,16 @@ pub rest_is : (i j : ℕ) (p r : List ℕ) → i ∷ p ≡ j ∷ r → p ≡ r
 rest_is i j p r e = cc
 
 module _ (st : Setting) where
-  pub later_from : (x y : Known) (n a n2 a2 : ℕ) → n ≤ x.count → a ≤ x.arrays → n ≤ n2 → a ≤ a2 → Later st x y → Later st (from x n a) (from y n2 a2)
+  pub later_from : (x y : Known) (n : Count) (a : ℕ) (n2 : Count) (a2 : ℕ) → AtMost n x.count → a ≤ x.arrays → AtMost n n2 → a ≤ a2 → Later st x y → Later st (from x n a) (from y n2 a2)
   later_from x y n a n2 a2 p q r s h = record {
-    more = r;
+    more = r.words;
+    more_fours = r.fours;
     more_arrays = s;
-    kept = kept_less n x.count x.vars y.vars p h.kept;
+    kept = kept_less n x.count x.vars y.vars p.words p.fours h.kept;
     same = λ c f. h.same c (filled_more st.locals a x.arrays c.array q f);
   }
 
-  pub ran_from : {S : Cell → Type 0} {T : Cell → ℕ → Type 0} {G : Known → Type 0} (x : Known) (fs : List Frame) (code rest : Code) (n a n1 a1 n2 a2 : ℕ) (H : Known → Type 0) → n ≤ x.count → a ≤ x.arrays → n ≤ n2 → a ≤ a2
+  pub ran_from : {S : Cell → Type 0} {T : Cell → ℕ → Type 0} {G : Known → Type 0} (x : Known) (fs : List Frame) (code rest : Code) (n : Count) (a : ℕ) (n1 : Count) (a1 : ℕ) (n2 : Count) (a2 : ℕ) (H : Known → Type 0) → AtMost n x.count → a ≤ x.arrays → AtMost n n2 → a ≤ a2
       → ((m : Memory) (vars : Vars) → G (record { memory = m; vars = vars; count = n1; arrays = a1 }) → H (record { memory = m; vars = vars; count = n2; arrays = a2 })) → Ran st x fs code rest n1 a1 S T G → Ran st (from x n a) fs code rest n2 a2 S T H
   ran_from x fs code rest n a n1 a1 n2 a2 H p q r s up h = record {
     after = h.after;
@@ -65,10 +67,10 @@ module _ (st : Setting) where
       inv : Inv t (written deeds x.memory) vars
 
     -- a turn, from what is known at its beginning
-    abbrev pub TurnRuns : (n a : ℕ) → Type 0
+    abbrev pub TurnRuns : (n : Count) → (a : ℕ) → Type 0
     TurnRuns n a = (t : ℕ) → t < count → (m : Memory) (vars : Vars) → Later st x (at x m vars) → Inv t m vars → Ran st (at x m vars) (frame_of st.device st.item p t ∷ fs) p.body End n a S (T1 t) (λ y. Inv (suc t) y.memory y.vars)
 
-    module _ (n a : ℕ) (begin : Inv 0 x.memory x.vars) (turn : TurnRuns n a) where
+    module _ (n : Count) (a : ℕ) (begin : Inv 0 x.memory x.vars) (turn : TurnRuns n a) where
       reach : (t : ℕ) → t ≤ count → Reached t
       reach zero le = record {
         vars = x.vars;
@@ -94,20 +96,20 @@ module _ (st : Setting) where
                 let ag2 = agrees_on st.owners st.item x.memory k h.deeds ag in
                 goes_on st.device st.item _ _ _ k h.deeds more (subst (λ z. Goes st.device st.item (item (loop_code p) fs x.vars) k h.deeds z) (inside st.device st.item fs r.bound p.start p.bound p.stride p.body p.after t h.vars (r.below t lt)) (h.goes k ag))
                 (goes_on st.device st.item _ _ _ _ u.deeds (Moved ∷ []) (u.goes (written h.deeds k) ag2) (goes_moved st.device st.item _ _ _ (next_again st.device st.item fs r.bound p.start p.bound p.stride p.body p.after t u.after r.bound_is (r.fits t lt))));
-            later = subst (λ z. Later st x (at x z u.after)) is (later_on st x y (at x (written u.deeds m) u.after) h.later (later_from y (known_after y u.deeds u.after n a) x.count x.arrays x.count x.arrays (omega arith) (omega arith) (omega arith) (omega arith) u.later));
+            later = subst (λ z. Later st x (at x z u.after)) is (later_on st x y (at x (written u.deeds m) u.after) h.later (later_from y (known_after y u.deeds u.after n a) x.count x.arrays x.count x.arrays (as_many x.count) (omega arith) (as_many x.count) (omega arith) u.later));
             allowed = every-append (IsAllowed st.owners st.item) h.deeds more h.allowed (every-append (IsAllowed st.owners st.item) u.deeds (Moved ∷ []) u.allowed (tt, tt));
             wrote = wrote_on x.memory h.deeds more (apart t lt) h.wrote (wrote_on m u.deeds (Moved ∷ []) before_silence u.wrote (silent (written u.deeds m) (Moved ∷ []) (λ c. refl)));
             inv = subst (λ z. Inv (suc t) z u.after) is u.good;
           }
 
-      pub looped : (n2 a2 : ℕ) → x.count ≤ n2 → x.arrays ≤ a2 → Ran st x fs (loop_code p) p.after n2 a2 S (T count) (λ y. Inv count y.memory y.vars)
+      pub looped : (n2 : Count) (a2 : ℕ) → AtMost x.count n2 → x.arrays ≤ a2 → Ran st x fs (loop_code p) p.after n2 a2 S (T count) (λ y. Inv count y.memory y.vars)
       looped n2 a2 le le2 =
           let h = reach count (omega arith) in
           record {
             after = h.vars;
             deeds = h.deeds;
             goes = λ m ag. subst (λ z. Goes st.device st.item (item (loop_code p) fs x.vars) m h.deeds z) (outside st.device st.item fs r.bound p.start p.bound p.stride p.body p.after count h.vars r.past) (h.goes m ag);
-            later = later_from x (at x (written h.deeds x.memory) h.vars) x.count x.arrays n2 a2 (omega arith) (omega arith) le le2 h.later;
+            later = later_from x (at x (written h.deeds x.memory) h.vars) x.count x.arrays n2 a2 (as_many x.count) (omega arith) le le2 h.later;
             allowed = h.allowed;
             wrote = h.wrote;
             good = h.inv;
@@ -126,6 +128,7 @@ module _ (st : Setting) (row : ℕ → ℕ) (y : Ty) (w : Marks) (s : Scalars) w
   pub due_unscratched : (b a : ℕ) (m : Mark) → DueAt st a m → Scratch b a (mark_cell st m) → ⊥
   due_unscratched b a Nowhere d h = d
   due_unscratched b a (Register r) d h = d
+  due_unscratched b a (Lane r j) d h = d
   due_unscratched b a (Spot e i) d h = go e d.2 h
     where
       go : (e : Array) → IsOpen st.locals a e → IsBetween b a e → ⊥

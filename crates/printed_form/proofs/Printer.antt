@@ -1,294 +1,312 @@
 -- What the printer prints is printed.
-use Rattle.std.proofs.Common.{◌≡◌, ℕ, suc, ◌+◌, ◌<◌, ◌^◌, Bool, true, false, List, [], ◌∷◌, ◌++◌, length, Option, Some, refl, ap, ◌∙◌, subst, arith, append-nil, length-append}
-use Rattle.kernel_tree.specs.Formula.{Formula, Number, Variable, LoopVariable, Binary}
-use Rattle.kernel_tree.specs.Code.{Array, Private, Code, End, Performs, Assigns, Stores, Loops}
+use Rattle.std.proofs.Common.{◌≡◌, ℕ, suc, ◌+◌, ◌<◌, ◌^◌, Bool, true, false, List, [], ◌∷◌, ◌++◌, length, Option, Some, refl, sym, ap, ◌∙◌, subst, arith, length-append}
+use Rattle.kernel_tree.specs.Formula.{Formula, Lanes, Number, LoopVariable, Binary, Spread}
+use Rattle.kernel_tree.specs.Formula as formula
+use Rattle.kernel_tree.specs.Code.{Private, Code, End, Performs, Assigns, AssignsFour, Loops}
 use Rattle.kernel_tree.specs.Launch.{Launch}
-use Rattle.lift_ir.specs.Types.{Ty, Scalar, PairOf, ArrayOf, IsPosition, IsElement, width}
+use Rattle.lift_ir.specs.Types.{Ty, Scalar, PairOf, ArrayOf, four, IsElement}
+use Rattle.lift_ir.specs.Fours.{Lie, Loose, Whole, element_lie, bound_lie, held_lie, written_lie, Lies, LoadsFours, ReadsFours, WritesFours}
 use Rattle.lift_ir.specs.Layouts.{result_position}
-use Rattle.lift_ir.specs.Terms.{PrivateMemory, LoadSet, LoadsScalars, Global, GlobalRows, Sequential, Term, Literal, Bound, Source, Apply, ApplyNumber, Select, Both, Project, Reshape, LetArray, LetElement, Map, Fold, Store, Copy, push, HasType}
+use Rattle.lift_ir.specs.Terms.{PrivateMemory, LoadSet, LoadsScalars, Global, GlobalRows, Sequential, Term, Literal, Bound, Source, Apply, ApplyNumber, ApplyLanes, DivideLanes, Select, Both, Project, Reshape, LetArray, LetElement, Map, Fold, Store, Copy, push, lane_type, HasType}
 use Rattle.lift_ir.specs.Scalars.{at_index}
 use Rattle.printed_form.specs.Arguments.{private_arrays, argument_view}
-use Rattle.printed_form.specs.Marks.{Mark, Nowhere, Register, Spot, Marks, laid_in, held_marks, loaded_marks}
-use Rattle.printed_form.specs.Form.{start_of, stride_of, IsAssigned, IsReassigned, IsElementWork, IsSpot, IsStored, IsFoldTurn, argument_marks, IsArgumentWork, IsWritten}
-use Rattle.printed_form.specs.Counts.{let_variables, load_count, variable_count, private_count}
-use Rattle.printed_form.specs.Expressions.{held, of_one, of_both, of_three, operation, selection, exprs}
+use Rattle.printed_form.specs.Marks.{Marks, laid_in, held_marks, loaded_marks}
+use Rattle.printed_form.specs.Form.{start_of, stride_of, IsAssigned, IsReassigned, IsElementWork, IsLoaded, IsFoldTurn, argument_marks, IsArgumentWork, IsWritten}
+use Rattle.printed_form.specs.Counts.{Count, more, held_count, let_variables, load_count, variable_count, private_count}
+use Rattle.printed_form.specs.Expressions.{Expr, OneWord, FourWords, held, of_one, of_both, of_three, in_fours, of_lanes, operation, selection, exprs}
 use Rattle.printed_form.specs.Whole.{IsAlongRow, IsOverLaunch}
-use Rattle.printed_form.specs.Views.{Sign, Blank, Held, Read, View, held_sign, held_view, loaded_view, view_at, result_indices, laid_view}
-use Rattle.printed_form.specs.Printer.{or_number, sign_exprs, print_assigned, print_reassigned, print_element, print_store, print_stored, print_loaded, print_fold_turn, print_argument, print_written}
+use Rattle.printed_form.specs.Views.{View, held_sign, held_view, loaded_view, view_at, rewritten_view, laid_view}
+use Rattle.printed_form.specs.Printer.{or_number, or_lanes, sign_exprs, print_assigned, print_reassigned, print_element, print_stored, print_loaded, print_fold_turn, print_argument, print_written}
 use Rattle.lift_ir.specs.Loads.{covers, all, held_scalars, IsHeld, AllHeld, AreLetsHeld, LoadsSuffice}
 use Rattle.lift_ir.specs.Forms.{Stands, StandsAlongRow, StandsOverLaunch}
-use Rattle.printed_form.specs.Means.{IsSpelled, IsCell, IsScalar, HasCells, Shows, AllShow}
+use Rattle.printed_form.specs.Means.{IsSpelled, HasCells, Shows, LiesAs, AllShow}
 use Rattle.printed_form.proofs.Indices.{laid_cells}
-use Rattle.printed_form.proofs.Shown.{cells_side, all_within, all_push, turned_cells, HeldIn, held_push, loaded_held, loaded_is, loaded_shows, back_cells}
+use Rattle.printed_form.proofs.Lies.{all_within, showing, turned_lies, first_lies, written_lies, lie_serves}
+use Rattle.printed_form.proofs.Held.{IsComponent, component_part, part_component, IsExprOf, IsExpr, AreExprs, one_word, four_words, exprs_left, exprs_right, held_exprs, loaded_exprs, HeldIn, held_push, all_push, held_shows, loaded_shows, loaded_is, stored_is}
+use Rattle.printed_form.proofs.Shown.{turned_cells, first_cells, back_cells}
 use Rattle.printed_form.proofs.Arguments.{kept_is, argument_shows, stands_argument}
 
-module _ (l : Launch) (item : ℕ) where
-  first_cells : (ts : List ℕ) (t : Ty) (x : View) (y : Marks) → HasCells l item ts (ArrayOf 1 t) x y → HasCells l item ts t (view_at (Number 0) x) (at_index 0 y)
-  first_cells ts t x y h us cs is q w g = h us cs (Number 0 ∷ is) (0 ∷ q) (omega arith, w) (record { fits = omega arith; always = λ vs. refl }, g)
+-- ---- expressions
 
-  held_shows : (ts : List ℕ) (t : Ty) (n : ℕ) → IsElement t → Shows l item ts t (held_view t n) (held_marks t n)
-  held_shows ts Scalar n e = λ us. refl
-  held_shows ts (PairOf a b) n e = (held_shows ts a n e.0, held_shows ts b (n + width a) e.1)
-  held_shows ts (ArrayOf m t) n e = absurd e
+-- a component of a word
+word_part : (ty : Ty) (cs : List Bool) (s m : Option Expr) → ty ≡ Scalar → IsComponent ty cs → IsExpr Scalar [] s m → IsExpr ty cs s m
+word_part ty cs s m e w h = subst (λ z. IsExpr z cs s m) (sym e) (go cs (subst (λ z. IsComponent z cs) e w))
+  where
+    go : (cs : List Bool) → IsComponent Scalar cs → IsExpr Scalar cs s m
+    go [] w = h
+    go (c ∷ cs) w = absurd w
 
-  -- expressions
+-- and of four
+four_part : (ty : Ty) (cs : List Bool) (s m : Option Expr) → ty ≡ four → IsComponent ty cs → IsExpr four [] s m → IsExpr ty cs s m
+four_part ty cs s m e w h = subst (λ z. IsExpr z cs s m) (sym e) (go cs (subst (λ z. IsComponent z cs) e w))
+  where
+    go : (cs : List Bool) → IsComponent four cs → IsExpr four cs s m
+    go [] w = h
+    go (c ∷ cs) w = absurd w
 
-  scalar_held : (ts : List ℕ) (s : Sign) (m : Mark) → IsScalar l item ts s m → held_sign s ≡ held m
-  scalar_held ts (Held v) (Register u) h = ap (λ z. Some (Variable z)) h
-  scalar_held ts (Read a f) (Spot b i) h = refl
-  scalar_held ts Blank m h = absurd h
-  scalar_held ts (Held v) Nowhere h = absurd h
-  scalar_held ts (Held v) (Spot b i) h = absurd h
-  scalar_held ts (Read a f) Nowhere h = absurd h
-  scalar_held ts (Read a f) (Register r) h = absurd h
+of_one_is : (f : Formula → Formula) (s m : Option Expr) → IsExpr Scalar [] s m → IsExpr Scalar [] (of_one f s) (of_one f m)
+of_one_is f s m h =
+    let a = one_word s m h in
+    record { expr = OneWord (f a.0); kind = tt; by_signs = ap (of_one f) a.1; by_marks = ap (of_one f) a.2 }
 
-  bound_same : (ts : List ℕ) (t : Ty) (x : View) (y : Marks) (cs : List Bool) → IsPosition t cs [] → Shows l item ts t x y → held_sign (x cs []) ≡ held (y cs [])
-  bound_same ts Scalar x y [] w h = scalar_held (ts ++ []) (x [] []) (y [] []) (h [])
-  bound_same ts Scalar x y (c ∷ cs) w h = absurd w
-  bound_same ts (PairOf a b) x y [] w h = absurd w
-  bound_same ts (PairOf a b) x y (false ∷ cs) w h = bound_same ts a (λ cs. x (false ∷ cs)) (λ cs. y (false ∷ cs)) cs w h.0
-  bound_same ts (PairOf a b) x y (true ∷ cs) w h = bound_same ts b (λ cs. x (true ∷ cs)) (λ cs. y (true ∷ cs)) cs w h.1
-  bound_same ts (ArrayOf n t) x y cs w h = absurd w
+of_both_is : (f : Formula → Formula → Formula) (s m s2 m2 : Option Expr) → IsExpr Scalar [] s m → IsExpr Scalar [] s2 m2 → IsExpr Scalar [] (of_both f s s2) (of_both f m m2)
+of_both_is f s m s2 m2 h k =
+    let a = one_word s m h in
+    let r = of_one_is (f a.0) s2 m2 k in
+    record { expr = r.expr; kind = r.kind; by_signs = ap (λ z. of_both f z s2) a.1 ∙ r.by_signs; by_marks = ap (λ z. of_both f z m2) a.2 ∙ r.by_marks }
 
-  module _ {A : Type 0} (num : A → ℕ) (src : ℕ → Ty) (ts : List ℕ) where
-    exprs_same : (t : Term A) (g : ℕ → Ty) (views : ℕ → View) (env : ℕ → Marks) (n : ℕ) (ty : Ty) (cs : List Bool) → HasType num src g t ty → IsPosition ty cs [] → AllShow l item ts g views env → sign_exprs views n t cs ≡ exprs env n t cs
-    exprs_same (Literal c) g views env n ty cs ok w es = refl
-    exprs_same (Bound v) g views env n ty cs ok w es = bound_same ts (g v) (views v) (env v) cs (subst (λ z. IsPosition z cs []) ok w) (es v)
-    exprs_same (Apply o a b) g views env n ty cs ok w es =
-        let x = exprs_same a g views env n Scalar [] ok.2 tt es in
-        let y = exprs_same b g views env (n + let_variables a) Scalar [] ok.3 tt es in
-        ap (λ z. of_both (operation o) z (sign_exprs views (n + let_variables a) b [])) x ∙ ap (λ z. of_both (operation o) (exprs env n a []) z) y
-    exprs_same (ApplyNumber o m a) g views env n ty cs ok w es = ap (of_one (λ x. Binary o x (Number m))) (exprs_same a g views env n Scalar [] ok.2 tt es)
-    exprs_same (Select c a b) g views env n ty cs ok w es =
-        let x = exprs_same c g views env n Scalar [] ok.1 tt es in
-        let y = exprs_same a g views env (n + let_variables c) Scalar [] ok.2 tt es in
-        let z = exprs_same b g views env (n + let_variables c + let_variables a) Scalar [] ok.3 tt es in
-        ap (λ k. of_three selection k (sign_exprs views (n + let_variables c) a []) (sign_exprs views (n + let_variables c + let_variables a) b [])) x
-        ∙ ap (λ k. of_three selection (exprs env n c []) k (sign_exprs views (n + let_variables c + let_variables a) b [])) y
-        ∙ ap (λ k. of_three selection (exprs env n c []) (exprs env (n + let_variables c) a []) k) z
-    exprs_same (Both false a b) g views env n ty [] ok w es = refl
-    exprs_same (Both false a b) g views env n ty (false ∷ cs) ok w es = exprs_same a g views env n ok.0 cs ok.5 (subst (λ z. IsPosition z (false ∷ cs) []) ok.2 w) es
-    exprs_same (Both false a b) g views env n ty (true ∷ cs) ok w es = exprs_same b g views env (n + let_variables a) ok.1 cs ok.6 (subst (λ z. IsPosition z (true ∷ cs) []) ok.2 w) es
-    exprs_same (Both true a b) g views env n ty cs ok w es = absurd (subst (λ z. IsPosition z cs []) ok.3 w)
-    exprs_same (Project false a) g views env n ty cs ok w es = exprs_same a g views env n (PairOf ty ok.0) (false ∷ cs) ok.1 w es
-    exprs_same (Project true a) g views env n ty cs ok w es = exprs_same a g views env n (PairOf ok.0 ty) (true ∷ cs) ok.1 w es
-    exprs_same (LetElement u v b) g views env n ty cs ok w es =
-        exprs_same b (push u g) (push (held_view u (n + let_variables v)) views) (push (held_marks u (n + let_variables v)) env) (n + let_variables v + width u) ty cs ok.2 w (all_push l item ts u _ _ g views env (held_shows ts u (n + let_variables v) ok.0) es)
-    exprs_same _ g views env n ty cs ok w es = refl
+of_three_is : (f : Formula → Formula → Formula → Formula) (s m s2 m2 s3 m3 : Option Expr) → IsExpr Scalar [] s m → IsExpr Scalar [] s2 m2 → IsExpr Scalar [] s3 m3 → IsExpr Scalar [] (of_three f s s2 s3) (of_three f m m2 m3)
+of_three_is f s m s2 m2 s3 m3 h k r =
+    let a = one_word s m h in
+    let b = of_both_is (f a.0) s2 m2 s3 m3 k r in
+    record { expr = b.expr; kind = b.kind; by_signs = ap (λ z. of_three f z s2 s3) a.1 ∙ b.by_signs; by_marks = ap (λ z. of_three f z m2 m3) a.2 ∙ b.by_marks }
 
-  held_all : (t : Ty) (n : ℕ) (cs : List Bool) → IsPosition t cs [] → (e : Formula) × (held (held_marks t n cs []) ≡ Some e)
-  held_all Scalar n [] w = (Variable n, refl)
-  held_all Scalar n (c ∷ cs) w = absurd w
-  held_all (PairOf a b) n [] w = absurd w
-  held_all (PairOf a b) n (false ∷ cs) w = held_all a n cs w
-  held_all (PairOf a b) n (true ∷ cs) w = held_all b (n + width a) cs w
-  held_all (ArrayOf m t) n cs w = absurd w
+lane_part : (v : Bool) → IsComponent (lane_type v) []
+lane_part true = (refl, refl)
+lane_part false = tt
 
-  module _ {A : Type 0} (num : A → ℕ) (src : ℕ → Ty) where
-    defined : (t : Term A) (g : ℕ → Ty) (env : ℕ → Marks) (h : ℕ → List Bool → Bool) (n : ℕ) (ty : Ty) (cs : List Bool) → HasType num src g t ty → IsPosition ty cs [] → IsHeld h t cs → HeldIn l item g env h → (e : Formula) × (exprs env n t cs ≡ Some e)
-    defined (Literal c) g env h n ty cs ok w nm r = (Number c, refl)
-    defined (Bound v) g env h n ty cs ok w nm r = r v cs (subst (λ z. IsPosition z cs []) ok w) nm
-    defined (Apply o a b) g env h n ty cs ok w nm r =
-        let x = defined a g env h n Scalar [] ok.2 tt nm.0 r in
-        let y = defined b g env h (n + let_variables a) Scalar [] ok.3 tt nm.1 r in
-        (operation o x.0 y.0, ap (λ z. of_both (operation o) z (exprs env (n + let_variables a) b [])) x.1 ∙ ap (λ z. of_one (operation o x.0) z) y.1)
-    defined (ApplyNumber o m a) g env h n ty cs ok w nm r = let x = defined a g env h n Scalar [] ok.2 tt nm r in (Binary o x.0 (Number m), ap (of_one (λ z. Binary o z (Number m))) x.1)
-    defined (Select c a b) g env h n ty cs ok w nm r =
-        let x = defined c g env h n Scalar [] ok.1 tt nm.0 r in
-        let y = defined a g env h (n + let_variables c) Scalar [] ok.2 tt nm.1 r in
-        let z = defined b g env h (n + let_variables c + let_variables a) Scalar [] ok.3 tt nm.2 r in (
-          selection x.0 y.0 z.0,
-          ap (λ k. of_three selection k (exprs env (n + let_variables c) a []) (exprs env (n + let_variables c + let_variables a) b [])) x.1
-              ∙ ap (λ k. of_both (selection x.0) k (exprs env (n + let_variables c + let_variables a) b [])) y.1 ∙ ap (λ k. of_one (selection x.0 y.0) k) z.1,
-        )
-    defined (Both false a b) g env h n ty [] ok w nm r = absurd (subst (λ z. IsPosition z [] []) ok.2 w)
-    defined (Both false a b) g env h n ty (false ∷ cs) ok w nm r = defined a g env h n ok.0 cs ok.5 (subst (λ z. IsPosition z (false ∷ cs) []) ok.2 w) nm r
-    defined (Both false a b) g env h n ty (true ∷ cs) ok w nm r = defined b g env h (n + let_variables a) ok.1 cs ok.6 (subst (λ z. IsPosition z (true ∷ cs) []) ok.2 w) nm r
-    defined (Both true a b) g env h n ty cs ok w nm r = absurd (subst (λ z. IsPosition z cs []) ok.3 w)
-    defined (Project false a) g env h n ty cs ok w nm r = defined a g env h n (PairOf ty ok.0) (false ∷ cs) ok.1 w nm r
-    defined (Project true a) g env h n ty cs ok w nm r = defined a g env h n (PairOf ok.0 ty) (true ∷ cs) ok.1 w nm r
-    defined (LetElement u v b) g env h n ty cs ok w nm r =
-        defined b (push u g) (push (held_marks u (n + let_variables v)) env) (push all h) (n + let_variables v + width u) ty cs ok.2 w nm (held_push l item u (held_marks u (n + let_variables v)) all g env h (λ ds z q. held_all u (n + let_variables v) ds z) r)
-    defined _ g env h n ty cs ok w nm r = absurd nm
+in_fours_is : (v : Bool) (s m : Option Expr) → IsExpr (lane_type v) [] s m → (e : Lanes) × (in_fours v s ≡ Some e) × (in_fours v m ≡ Some e)
+in_fours_is true s m h = let a = four_words 4 Scalar s m h in (a.0, ap (in_fours true) a.1, ap (in_fours true) a.2)
+in_fours_is false s m h = let a = one_word s m h in (Spread a.0, ap (in_fours false) a.1, ap (in_fours false) a.2)
 
-  -- statements
+of_lanes_is : (f : Lanes → Lanes → Lanes) (s m s2 m2 : Option Lanes) → (e : Lanes) × (s ≡ Some e) × (m ≡ Some e) → (e : Lanes) × (s2 ≡ Some e) × (m2 ≡ Some e) → IsExpr four [] (of_lanes f s s2) (of_lanes f m m2)
+of_lanes_is f s m s2 m2 a b = record {
+  expr = FourWords (f a.0 b.0);
+  kind = tt;
+  by_signs = ap (λ z. of_lanes f z s2) a.1 ∙ ap (λ z. of_lanes f (Some a.0) z) b.1;
+  by_marks = ap (λ z. of_lanes f z m2) a.2 ∙ ap (λ z. of_lanes f (Some a.0) z) b.2;
+}
 
-  module _ (ins : ℕ → Marks) where
-    abbrev Sames : Ty → (List Bool → Option Formula) → (List Bool → Option Formula) → Type 0
-    Sames ty f k = (cs : List Bool) → IsPosition ty cs [] → k cs ≡ f cs
+module _ {A : Type 0} (num : A → ℕ) (src : ℕ → Ty) where
+  -- a component that hangs on variables has one expression, by views and by marks
+  pub expressed : (t : Term A) (g : ℕ → Ty) (views : ℕ → View) (env : ℕ → Marks) (h : ℕ → List Bool → Bool) (n : Count) (ty : Ty) (cs : List Bool) → HasType num src g t ty → IsComponent ty cs → IsHeld h t cs → HeldIn g views env h → IsExpr ty cs (sign_exprs views n t cs) (exprs env n t cs)
+  expressed (Literal c) g views env h n ty cs ok w nm r = word_part ty cs _ _ ok w (record { expr = OneWord (Number c); kind = tt; by_signs = refl; by_marks = refl })
+  expressed (Bound v) g views env h n ty cs ok w nm r = subst (λ z. IsExpr z cs (held_sign (views v cs [])) (held (env v cs))) (sym ok) (r v cs (component_part (g v) cs (subst (λ z. IsComponent z cs) ok w)) nm)
+  expressed (Apply o a b) g views env h n ty cs ok w nm r =
+      word_part ty cs _ _ ok.0 w (of_both_is (operation o) _ _ _ _ (expressed a g views env h n Scalar [] ok.2 tt nm.0 r) (expressed b g views env h (more n (let_variables a)) Scalar [] ok.3 tt nm.1 r))
+  expressed (ApplyNumber o m a) g views env h n ty cs ok w nm r = word_part ty cs _ _ ok.0 w (of_one_is (λ x. Binary o x (Number m)) _ _ (expressed a g views env h n Scalar [] ok.2 tt nm r))
+  expressed (ApplyLanes o x y a b) g views env h n ty cs ok w nm r =
+      four_part ty cs _ _ ok.0 w
+      (of_lanes_is (formula.Each o) _ _ _ _ (in_fours_is x _ _ (expressed a g views env h n (lane_type x) [] ok.4 (lane_part x) nm.0 r)) (in_fours_is y _ _ (expressed b g views env h (more n (let_variables a)) (lane_type y) [] ok.5 (lane_part y) nm.1 r)))
+  expressed (DivideLanes o m a) g views env h n ty cs ok w nm r =
+      four_part ty cs _ _ ok.0 w (of_lanes_is (formula.Each o) _ _ _ _ (in_fours_is true _ _ (expressed a g views env h n four [] ok.2 (refl, refl) nm r)) (Spread (Number m), refl, refl))
+  expressed (Select c a b) g views env h n ty cs ok w nm r =
+      word_part ty cs _ _ ok.0 w
+      (of_three_is selection _ _ _ _ _ _ (expressed c g views env h n Scalar [] ok.1 tt nm.0 r) (expressed a g views env h (more n (let_variables c)) Scalar [] ok.2 tt nm.1 r) (expressed b g views env h (more (more n (let_variables c)) (let_variables a)) Scalar [] ok.3 tt nm.2 r))
+  expressed (Both false a b) g views env h n ty [] ok w nm r = absurd (subst (λ z. IsComponent z []) ok.2 w)
+  expressed (Both false a b) g views env h n ty (false ∷ cs) ok w nm r =
+      let e = expressed a g views env h n ok.0 cs ok.5 (subst (λ z. IsComponent z (false ∷ cs)) ok.2 w) nm r in
+      record { expr = e.expr; kind = subst (λ z. IsExprOf z (false ∷ cs) e.expr) (sym ok.2) e.kind; by_signs = e.by_signs; by_marks = e.by_marks }
+  expressed (Both false a b) g views env h n ty (true ∷ cs) ok w nm r =
+      let e = expressed b g views env h (more n (let_variables a)) ok.1 cs ok.6 (subst (λ z. IsComponent z (true ∷ cs)) ok.2 w) nm r in
+      record { expr = e.expr; kind = subst (λ z. IsExprOf z (true ∷ cs) e.expr) (sym ok.2) e.kind; by_signs = e.by_signs; by_marks = e.by_marks }
+  expressed (Both true a b) g views env h n ty [] ok w nm r = absurd (no_pair ok.0 ok.1 ok.2 (subst (λ z. IsComponent z []) ok.3 w).1)
+    where
+      no_pair : (n : ℕ) (x y : Ty) → PairOf x y ≡ Scalar → ⊥
+      no_pair n x y e = cc
+  expressed (Both true a b) g views env h n ty (c ∷ cs) ok w nm r = absurd (subst (λ z. IsComponent z (c ∷ cs)) ok.3 w)
+  expressed (Project false a) g views env h n ty cs ok w nm r =
+      let e = expressed a g views env h n (PairOf ty ok.0) (false ∷ cs) ok.1 w nm r in
+      record { expr = e.expr; kind = e.kind; by_signs = e.by_signs; by_marks = e.by_marks }
+  expressed (Project true a) g views env h n ty cs ok w nm r =
+      let e = expressed a g views env h n (PairOf ok.0 ty) (true ∷ cs) ok.1 w nm r in
+      record { expr = e.expr; kind = e.kind; by_signs = e.by_signs; by_marks = e.by_marks }
+  expressed (LetElement u v b) g views env h n ty cs ok w nm r =
+      let n1 = more n (let_variables v) in
+      expressed b (push u g) (push (held_view u n1) views) (push (held_marks u n1) env) (push all h) (more n1 (held_count u)) ty cs ok.2 w nm (held_push u (held_view u n1) (held_marks u n1) all g views env h (λ ds z q. held_exprs u n1 ok.0 ds z) r)
+  expressed _ g views env h n ty cs ok w nm r = absurd nm
 
-    abbrev Defines : Ty → (List Bool → Option Formula) → Type 0
-    Defines ty f = (cs : List Bool) → IsPosition ty cs [] → (e : Formula) × (f cs ≡ Some e)
+  -- so has each of an element
+  pub exprs_of : (t : Term A) (g : ℕ → Ty) (views : ℕ → View) (env : ℕ → Marks) (h : ℕ → List Bool → Bool) (n : Count) (ty : Ty) → IsElement ty → HasType num src g t ty → AllHeld h ty t → HeldIn g views env h → AreExprs ty (sign_exprs views n t) (exprs env n t)
+  exprs_of t g views env h n ty el ok nm r cs w = expressed t g views env h n ty cs ok (part_component ty cs el w) (nm cs w) r
 
-    assigned_is : (ty : Ty) (f k : List Bool → Option Formula) (n : ℕ) (rest : Code) → IsElement ty → Sames ty f k → Defines ty f → IsAssigned ty f n (print_assigned ty k n rest) rest
-    assigned_is Scalar f k n rest el s d = let e = d [] tt in (e.0, e.1, ap (λ z. Performs (Assigns n (or_number z)) rest) (s [] tt ∙ e.1))
-    assigned_is (PairOf a b) f k n rest el s d = (
-      print_assigned b (λ cs. k (true ∷ cs)) (n + width a) rest,
-      assigned_is a (λ cs. f (false ∷ cs)) (λ cs. k (false ∷ cs)) n _ el.0 (λ cs. s (false ∷ cs)) (λ cs. d (false ∷ cs)),
-      assigned_is b (λ cs. f (true ∷ cs)) (λ cs. k (true ∷ cs)) (n + width a) rest el.1 (λ cs. s (true ∷ cs)) (λ cs. d (true ∷ cs)),
-    )
-    assigned_is (ArrayOf m t) f k n rest el s d = absurd el
+-- ---- statements
 
-    again_is : (ty : Ty) (f k : List Bool → Option Formula) (acc n : ℕ) (rest : Code) → IsElement ty → Sames ty f k → Defines ty f → IsReassigned ty f acc n (print_reassigned ty k acc n rest) rest
-    again_is Scalar f k acc n rest el s d = assigned_is Scalar f k acc rest el s d
-    again_is (PairOf a b) f k acc n rest el s d = (
-      print_assigned (PairOf a b) (λ cs. held_sign (held_view (PairOf a b) n cs [])) acc rest,
-      assigned_is (PairOf a b) f k n _ el s d,
-      assigned_is (PairOf a b) (λ cs. held (held_marks (PairOf a b) n cs [])) (λ cs. held_sign (held_view (PairOf a b) n cs [])) acc rest el
-          (λ cs w. bound_same [] (PairOf a b) (held_view (PairOf a b) n) (held_marks (PairOf a b) n) cs w (held_shows [] (PairOf a b) n el)) (λ cs w. held_all (PairOf a b) n cs w),
-    )
-    again_is (ArrayOf m t) f k acc n rest el s d = absurd el
+pub assigned_is : (ty : Ty) (k f : List Bool → Option Expr) (n : Count) (rest : Code) → IsElement ty → AreExprs ty k f → IsAssigned ty f n (print_assigned ty k n rest) rest
+assigned_is Scalar k f n rest el s = let e = one_word (k []) (f []) (s [] tt) in (e.0, e.2, ap (λ z. Performs (Assigns n.words (or_number z)) rest) e.1)
+assigned_is (PairOf a b) k f n rest el s = (
+  print_assigned b (λ cs. k (true ∷ cs)) (more n (held_count a)) rest,
+  assigned_is a (λ cs. k (false ∷ cs)) (λ cs. f (false ∷ cs)) n _ el.0 (exprs_left a b k f s),
+  assigned_is b (λ cs. k (true ∷ cs)) (λ cs. f (true ∷ cs)) (more n (held_count a)) rest el.1 (exprs_right a b k f s),
+)
+assigned_is (ArrayOf m t) k f n rest el s = let e = four_words m t (k []) (f []) (s [] tt) in (el, e.0, e.2, ap (λ z. Performs (AssignsFour n.fours (or_lanes z)) rest) e.1)
 
-    store_is : (ts : List ℕ) (s : Sign) (m : Mark) (e : Formula) (rest : Code) → IsCell l item ts s m → (a : Array) × (i : Formula) × IsSpot l item ins ts m a i × (print_store s e rest ≡ Performs (Stores a i e) rest)
-    store_is ts (Read a f) (Spot b j) e rest h = (a, f, (h.0, h.1.always), refl)
-    store_is ts (Read a f) Nowhere e rest h = absurd h
-    store_is ts (Read a f) (Register r) e rest h = absurd h
-    store_is ts (Held v) m e rest h = absurd h
-    store_is ts Blank m e rest h = absurd h
+pub again_is : (ty : Ty) (k f : List Bool → Option Expr) (acc n : Count) (rest : Code) → IsElement ty → AreExprs ty k f → IsReassigned ty f acc n (print_reassigned ty k acc n rest) rest
+again_is Scalar k f acc n rest el s = assigned_is Scalar k f acc rest el s
+again_is (PairOf a b) k f acc n rest el s = (
+  print_assigned (PairOf a b) (λ cs. held_sign (held_view (PairOf a b) n cs [])) acc rest,
+  assigned_is (PairOf a b) k f n _ el s,
+  assigned_is (PairOf a b) (λ cs. held_sign (held_view (PairOf a b) n cs [])) (λ cs. held (held_marks (PairOf a b) n cs)) acc rest el (held_exprs (PairOf a b) n el),
+)
+again_is (ArrayOf m t) k f acc n rest el s = assigned_is (ArrayOf m t) k f acc rest el s
 
-    stored_is : (ts : List ℕ) (ty : Ty) (f k : List Bool → Option Formula) (w : Marks) (v : View) (rest : Code) → IsElement ty → Sames ty f k → Defines ty f → HasCells l item ts ty v w → IsStored l item ins ts ty f w (print_stored ty k v rest) rest
-    stored_is ts Scalar f k w v rest el s d h =
-        let e = d [] tt in
-        let c = store_is ts (v [] []) (w [] []) (or_number (k [])) rest (subst (λ z. IsCell l item z (v [] []) (w [] [])) (append-nil ts) (h [] [] [] [] tt tt)) in
-        (c.0, c.1, e.0, e.1, c.2, c.3 ∙ ap (λ z. Performs (Stores c.0 c.1 (or_number z)) rest) (s [] tt ∙ e.1))
-    stored_is ts (PairOf a b) f k w v rest el s d h = (
-      print_stored b (λ cs. k (true ∷ cs)) (λ cs. v (true ∷ cs)) rest,
-      stored_is ts a (λ cs. f (false ∷ cs)) (λ cs. k (false ∷ cs)) (λ cs. w (false ∷ cs)) (λ cs. v (false ∷ cs)) _ el.0 (λ cs. s (false ∷ cs)) (λ cs. d (false ∷ cs)) (cells_side l item ts false a (PairOf a b) v w (λ cs q z. z) h),
-      stored_is ts b (λ cs. f (true ∷ cs)) (λ cs. k (true ∷ cs)) (λ cs. w (true ∷ cs)) (λ cs. v (true ∷ cs)) rest el.1 (λ cs. s (true ∷ cs)) (λ cs. d (true ∷ cs)) (cells_side l item ts true b (PairOf a b) v w (λ cs q z. z) h),
-    )
-    stored_is ts (ArrayOf m t) f k w v rest el s d h = absurd el
-
-    module _ {A : Type 0} (num : A → ℕ) (src : ℕ → Ty) (ts : List ℕ) where
-      element_is : (t : Term A) (g : ℕ → Ty) (views : ℕ → View) (env : ℕ → Marks) (h : ℕ → List Bool → Bool) (n : ℕ) (ty : Ty) (rest : Code) → HasType num src g t ty → AreLetsHeld h t → AllShow l item ts g views env → HeldIn l item g env h → IsElementWork env n t (print_element views n t rest) rest
-      element_is (Literal c) g views env h n ty rest ok nm es r = refl
-      element_is (Bound v) g views env h n ty rest ok nm es r = refl
-      element_is (Apply o a b) g views env h n ty rest ok nm es r =
-          (print_element views (n + let_variables a) b rest, element_is a g views env h n Scalar _ ok.2 nm.0 es r, element_is b g views env h (n + let_variables a) Scalar rest ok.3 nm.1 es r)
-      element_is (ApplyNumber o m a) g views env h n ty rest ok nm es r = element_is a g views env h n Scalar rest ok.2 nm es r
-      element_is (Select c a b) g views env h n ty rest ok nm es r = (
-        print_element views (n + let_variables c) a (print_element views (n + let_variables c + let_variables a) b rest),
-        print_element views (n + let_variables c + let_variables a) b rest,
-        element_is c g views env h n Scalar _ ok.1 nm.0 es r,
-        element_is a g views env h (n + let_variables c) Scalar _ ok.2 nm.1 es r,
-        element_is b g views env h (n + let_variables c + let_variables a) Scalar rest ok.3 nm.2 es r,
+module _ {A : Type 0} (num : A → ℕ) (src : ℕ → Ty) where
+  pub element_is : (t : Term A) (g : ℕ → Ty) (views : ℕ → View) (env : ℕ → Marks) (h : ℕ → List Bool → Bool) (n : Count) (ty : Ty) (rest : Code) → HasType num src g t ty → AreLetsHeld h t → HeldIn g views env h → IsElementWork env n t (print_element views n t rest) rest
+  element_is (Literal c) g views env h n ty rest ok nm r = refl
+  element_is (Bound v) g views env h n ty rest ok nm r = refl
+  element_is (Apply o a b) g views env h n ty rest ok nm r =
+      (print_element views (more n (let_variables a)) b rest, element_is a g views env h n Scalar _ ok.2 nm.0 r, element_is b g views env h (more n (let_variables a)) Scalar rest ok.3 nm.1 r)
+  element_is (ApplyNumber o m a) g views env h n ty rest ok nm r = element_is a g views env h n Scalar rest ok.2 nm r
+  element_is (ApplyLanes o x y a b) g views env h n ty rest ok nm r =
+      (print_element views (more n (let_variables a)) b rest, element_is a g views env h n (lane_type x) _ ok.4 nm.0 r, element_is b g views env h (more n (let_variables a)) (lane_type y) rest ok.5 nm.1 r)
+  element_is (DivideLanes o m a) g views env h n ty rest ok nm r = element_is a g views env h n four rest ok.2 nm r
+  element_is (Select c a b) g views env h n ty rest ok nm r =
+      let n1 = more n (let_variables c) in
+      let n2 = more n1 (let_variables a) in (
+        print_element views n1 a (print_element views n2 b rest),
+        print_element views n2 b rest,
+        element_is c g views env h n Scalar _ ok.1 nm.0 r,
+        element_is a g views env h n1 Scalar _ ok.2 nm.1 r,
+        element_is b g views env h n2 Scalar rest ok.3 nm.2 r,
       )
-      element_is (Both false a b) g views env h n ty rest ok nm es r =
-          (print_element views (n + let_variables a) b rest, element_is a g views env h n ok.0 _ ok.5 nm.0 es r, element_is b g views env h (n + let_variables a) ok.1 rest ok.6 nm.1 es r)
-      element_is (Both true a b) g views env h n ty rest ok nm es r =
-          (print_element views (n + let_variables a) b rest, element_is a g views env h n (ArrayOf ok.0 ok.1) _ ok.4 nm.0 es r, element_is b g views env h (n + let_variables a) (ArrayOf ok.0 ok.2) rest ok.5 nm.1 es r)
-      element_is (Project false a) g views env h n ty rest ok nm es r = element_is a g views env h n (PairOf ty ok.0) rest ok.1 nm es r
-      element_is (Project true a) g views env h n ty rest ok nm es r = element_is a g views env h n (PairOf ok.0 ty) rest ok.1 nm es r
-      element_is (LetElement u v b) g views env h n ty rest ok nm es r =
-          let n1 = n + let_variables v in
-          let es2 = all_push l item ts u (held_view u n1) (held_marks u n1) g views env (held_shows ts u n1 ok.0) es in
-          let r2 = held_push l item u (held_marks u n1) all g env h (λ ds z q. held_all u n1 ds z) r in
-          let last = print_element (push (held_view u n1) views) (n1 + width u) b rest in (
-            print_assigned u (sign_exprs views n v) n1 last,
-            last,
-            element_is v g views env h n u _ ok.1 nm.1 es r,
-            assigned_is u (exprs env n v) (sign_exprs views n v) n1 last ok.0 (λ cs w. exprs_same num src ts v g views env n u cs ok.1 w es) (λ cs w. defined num src v g env h n u cs ok.1 w (nm.0 cs w) r),
-            element_is b (push u g) (push (held_view u n1) views) (push (held_marks u n1) env) (push all h) (n1 + width u) ty rest ok.2 nm.2 es2 r2,
-          )
-      element_is _ g views env h n ty rest ok nm es r = absurd nm
+  element_is (Both false a b) g views env h n ty rest ok nm r =
+      (print_element views (more n (let_variables a)) b rest, element_is a g views env h n ok.0 _ ok.5 nm.0 r, element_is b g views env h (more n (let_variables a)) ok.1 rest ok.6 nm.1 r)
+  element_is (Both true a b) g views env h n ty rest ok nm r =
+      (print_element views (more n (let_variables a)) b rest, element_is a g views env h n (ArrayOf ok.0 ok.1) _ ok.4 nm.0 r, element_is b g views env h (more n (let_variables a)) (ArrayOf ok.0 ok.2) rest ok.5 nm.1 r)
+  element_is (Project false a) g views env h n ty rest ok nm r = element_is a g views env h n (PairOf ty ok.0) rest ok.1 nm r
+  element_is (Project true a) g views env h n ty rest ok nm r = element_is a g views env h n (PairOf ok.0 ty) rest ok.1 nm r
+  element_is (LetElement u v b) g views env h n ty rest ok nm r =
+      let n1 = more n (let_variables v) in
+      let r2 = held_push u (held_view u n1) (held_marks u n1) all g views env h (λ ds z q. held_exprs u n1 ok.0 ds z) r in
+      let last = print_element (push (held_view u n1) views) (more n1 (held_count u)) b rest in (
+        print_assigned u (sign_exprs views n v) n1 last,
+        last,
+        element_is v g views env h n u (print_assigned u (sign_exprs views n v) n1 last) ok.1 nm.1 r,
+        assigned_is u (sign_exprs views n v) (exprs env n v) n1 last ok.0 (exprs_of num src v g views env h n u ok.0 ok.1 nm.0 r),
+        element_is b (push u g) (push (held_view u n1) views) (push (held_marks u n1) env) (push all h) (more n1 (held_count u)) ty rest ok.2 nm.2 r2,
+      )
+  element_is _ g views env h n ty rest ok nm r = absurd nm
 
 module _ (l : Launch) (item : ℕ) {A : Type 0} (num : A → ℕ) (spell : A → Formula) (spelled : (n : A) → num n < 2 ^ 31 → IsSpelled l (spell n) (num n)) where
   module _ (src : ℕ → Ty) (ins : ℕ → Marks) (sins : ℕ → View) where
     -- a fold's turn
-    turn_is : (ts : List ℕ) (g : ℕ → Ty) (views : ℕ → View) (env : ℕ → Marks) (h : ℕ → List Bool → Bool) (loads : LoadSet) (xt ty : Ty) (x : View) (y : Marks) (acc : ℕ) (b : Term A) → LoadsScalars loads xt → IsElement ty → HasType num src (push xt (push ty g)) b ty
-        → AllHeld (push (covers loads) (push all h)) ty b → AreLetsHeld (push (covers loads) (push all h)) b → HasCells l item ts xt x y → AllShow l item ts g views env → HeldIn l item g env h → IsFoldTurn l item ins ts env loads ty y acc b (print_fold_turn views loads ty x acc b)
-    turn_is ts g views env h loads xt ty x y acc b suits el ok nm lets cells es r =
-        let n1 = acc + width ty in
-        let n2 = n1 + load_count loads in
+    turn_is : (ts : List ℕ) (g : ℕ → Ty) (views : ℕ → View) (env : ℕ → Marks) (h : ℕ → List Bool → Bool) (z : Lie) (loads : LoadSet) (xt ty : Ty) (x : View) (y : Marks) (acc : Count) (b : Term A) → LoadsScalars loads xt → LoadsFours z loads → IsElement ty → HasType num src (push xt (push ty g)) b ty
+        → AllHeld (push (covers loads) (push all h)) ty b → AreLetsHeld (push (covers loads) (push all h)) b → HasCells l item ts xt x y → LiesAs l item z ts xt x y → HeldIn g views env h → IsFoldTurn l item ins ts env loads ty y acc b (print_fold_turn views loads ty x acc b)
+    turn_is ts g views env h z loads xt ty x y acc b suits four el ok nm lets cells lie r =
+        let n1 = more acc (held_count ty) in
+        let n2 = more n1 (load_count loads) in
         let g2 = push xt (push ty g) in
         let views2 = push (loaded_view loads x n1) (push (held_view ty acc) views) in
         let env2 = push (loaded_marks loads y n1) (push (held_marks ty acc) env) in
         let h2 = push (covers loads) (push all h) in
-        let es2 = all_push l item ts xt (loaded_view loads x n1) (loaded_marks loads y n1) (push ty g) (push (held_view ty acc) views) (push (held_marks ty acc) env) (loaded_shows l item ins ts loads xt x y n1 suits cells)
-        (all_push l item ts ty (held_view ty acc) (held_marks ty acc) g views env (held_shows l item ts ty acc el) es) in
-        let r2 = held_push l item xt (loaded_marks loads y n1) (covers loads) (push ty g) (push (held_marks ty acc) env) (push all h) (λ cs w q. loaded_held l item loads y n1 cs q)
-        (held_push l item ty (held_marks ty acc) all g env h (λ cs w q. held_all l item ty acc cs w) r) in
-        let last = print_reassigned ty (sign_exprs views2 n2 b) acc (n2 + let_variables b) End in (
+        let r2 = held_push xt (loaded_view loads x n1) (loaded_marks loads y n1) (covers loads) (push ty g) (push (held_view ty acc) views) (push (held_marks ty acc) env) (push all h) (λ cs w q. loaded_exprs loads xt x y n1 cs suits w q)
+        (held_push ty (held_view ty acc) (held_marks ty acc) all g views env h (λ cs w q. held_exprs ty acc el cs w) r) in
+        let last = print_reassigned ty (sign_exprs views2 n2 b) acc (more n2 (let_variables b)) End in (
           print_element views2 n2 b last,
           last,
-          loaded_is l item ins ts loads xt x y n1 _ suits cells,
-          element_is l item ins num src ts b g2 views2 env2 h2 n2 ty last ok lets es2 r2,
-          again_is l item ins ty (exprs env2 n2 b) (sign_exprs views2 n2 b) acc (n2 + let_variables b) End el (λ cs w. exprs_same l item num src ts b g2 views2 env2 n2 ty cs ok w es2) (λ cs w. defined l item num src b g2 env2 h2 n2 ty cs ok w (nm cs w) r2),
+          loaded_is l item ins ts z loads xt x y n1 _ suits four cells lie,
+          element_is num src b g2 views2 env2 h2 n2 ty last ok lets r2,
+          again_is ty (sign_exprs views2 n2 b) (exprs env2 n2 b) acc (more n2 (let_variables b)) End el (exprs_of num src b g2 views2 env2 h2 n2 ty el ok nm r2),
         )
 
     -- what stands for an argument shows it
-    shown : (t : Term A) (ts : List ℕ) (g : ℕ → Ty) (views : ℕ → View) (env : ℕ → Marks) (h : ℕ → List Bool → Bool) (a : ℕ) (ty : Ty) → HasType num src g t ty → LoadsSuffice h t → Stands false t → AllShow l item ts g views env → AllShow l item ts src sins ins → Shows l item ts ty (argument_view private_arrays spell sins views a t) (argument_marks l ins num env a t)
-    shown t ts g views env h a ty ok nm sd es gs =
-        argument_shows private_arrays l item num spell spelled src ins sins ts gs t g views env h a ty (stands_argument t sd) ok nm es
+    shown : (t : Term A) (ts : List ℕ) (lies : ℕ → Lie) (g : ℕ → Ty) (views : ℕ → View) (env : ℕ → Marks) (h : ℕ → List Bool → Bool) (a : ℕ) (ty : Ty) (z : Lie) → HasType num src g t ty → LoadsSuffice h t → Stands false t → AllShow l item ts lies g views env → AllShow l item ts (λ v. Whole) src sins ins → Lies lies t z
+        → Shows l item ts ty (argument_view private_arrays spell sins views a t) (argument_marks l ins num env a t) × LiesAs l item z ts ty (argument_view private_arrays spell sins views a t) (argument_marks l ins num env a t)
+    shown t ts lies g views env h a ty z ok nm sd es gs s = argument_shows private_arrays l item num spell spelled src ins sins ts gs t lies g views env h a ty z (stands_argument t sd) ok nm es s
+
+    -- what is pushed for it
+    shown_push : (t : Term A) (ts : List ℕ) (lies : ℕ → Lie) (g : ℕ → Ty) (views : ℕ → View) (env : ℕ → Marks) (h : ℕ → List Bool → Bool) (a : ℕ) (ty : Ty) (z : Lie) → HasType num src g t ty → LoadsSuffice h t → Stands false t → AllShow l item ts lies g views env → AllShow l item ts (λ v. Whole) src sins ins → Lies lies t z
+        → AllShow l item ts (push z lies) (push ty g) (push (argument_view private_arrays spell sins views a t) views) (push (argument_marks l ins num env a t) env)
+    shown_push t ts lies g views env h a ty z ok nm sd es gs s =
+        let p = shown t ts lies g views env h a ty z ok nm sd es gs s in
+        let x = argument_view private_arrays spell sins views a t in
+        let y = argument_marks l ins num env a t in
+        all_push l item ts z ty x y lies g views env (showing l item z ts ty x y p.0 p.1) es
+
+    kept_push : (t : Term A) (g : ℕ → Ty) (views : ℕ → View) (env : ℕ → Marks) (h : ℕ → List Bool → Bool) (a : ℕ) (ty : Ty) → HasType num src g t ty → HeldIn g views env h → HeldIn (push ty g) (push (argument_view private_arrays spell sins views a t) views) (push (argument_marks l ins num env a t) env) (push (held_scalars h t) h)
+    kept_push t g views env h a ty ok r = held_push ty (argument_view private_arrays spell sins views a t) (argument_marks l ins num env a t) (held_scalars h t) g views env h (λ cs w k. kept_is private_arrays num spell src ins sins t g views env h a ty cs ok w k r) r
+
+    -- the body of a map at a turn: what is loaded and what is bound
+    record AtTurn (ts2 : List ℕ) (lies : ℕ → Lie) (g : ℕ → Ty) (views : ℕ → View) (env : ℕ → Marks) (h : ℕ → List Bool → Bool) (z : Lie) (loads : LoadSet) (t : Ty) (x : View) (y : Marks) (n1 : Count) : Type 0 where
+      shows : AllShow l item ts2 (push (bound_lie loads z) lies) (push t g) (push (loaded_view loads x n1) views) (push (loaded_marks loads y n1) env)
+      held : HeldIn (push t g) (push (loaded_view loads x n1) views) (push (loaded_marks loads y n1) env) (push (covers loads) h)
+      work : (rest : Code) → IsLoaded l item ins ts2 loads y n1 (print_loaded loads x n1 rest) rest
+
+    at_turn : (ts2 : List ℕ) (lies : ℕ → Lie) (g : ℕ → Ty) (views : ℕ → View) (env : ℕ → Marks) (h : ℕ → List Bool → Bool) (z : Lie) (loads : LoadSet) (t : Ty) (x : View) (y : Marks) (n1 : Count) → LoadsScalars loads t → LoadsFours z loads → HasCells l item ts2 t x y → LiesAs l item z ts2 t x y
+        → AllShow l item ts2 lies g views env → HeldIn g views env h → AtTurn ts2 lies g views env h z loads t x y n1
+    at_turn ts2 lies g views env h z loads t x y n1 suits fours cells lie es r = record {
+      shows = all_push l item ts2 (bound_lie loads z) t (loaded_view loads x n1) (loaded_marks loads y n1) lies g views env (loaded_shows l item ts2 z loads t x y n1 suits fours cells lie) es;
+      held = held_push t (loaded_view loads x n1) (loaded_marks loads y n1) (covers loads) g views env h (λ cs w q. loaded_exprs loads t x y n1 cs suits w q) r;
+      work = λ rest. loaded_is l item ins ts2 z loads t x y n1 rest suits fours cells lie;
+    }
 
     mutual
-      gathered_is : (t : Term A) (ts : List ℕ) (depth : ℕ) (g : ℕ → Ty) (views : ℕ → View) (env : ℕ → Marks) (h : ℕ → List Bool → Bool) (a n : ℕ) (ty : Ty) (rest : Code) → length ts ≡ depth → HasType num src g t ty → LoadsSuffice h t → Stands false t → AllShow l item ts g views env → AllShow l item ts src sins ins → HeldIn l item g env h
+      gathered_is : (t : Term A) (ts : List ℕ) (depth : ℕ) (lies : ℕ → Lie) (g : ℕ → Ty) (views : ℕ → View) (env : ℕ → Marks) (h : ℕ → List Bool → Bool) (a : ℕ) (n : Count) (ty : Ty) (rest : Code) → length ts ≡ depth → HasType num src g t ty → LoadsSuffice h t → Stands false t → ReadsFours lies t → AllShow l item ts lies g views env → AllShow l item ts (λ v. Whole) src sins ins → HeldIn g views env h
           → IsArgumentWork l item ins num ts env a n t (print_argument spell sins depth views a n t rest) rest
-      gathered_is (Bound v) ts depth g views env h a n ty rest d ok nm sd es gs r = refl
-      gathered_is (Source v) ts depth g views env h a n ty rest d ok nm sd es gs r = refl
-      gathered_is (Both false x y) ts depth g views env h a n ty rest d ok nm sd es gs r =
-          let next = print_argument spell sins depth views (a + private_count x) (n + variable_count x) y rest in
-          (next, gathered_is x ts depth g views env h a n ok.0 next d ok.5 nm.0 sd.0 es gs r, gathered_is y ts depth g views env h (a + private_count x) (n + variable_count x) ok.1 rest d ok.6 nm.1 sd.1 es gs r)
-      gathered_is (Both true x y) ts depth g views env h a n ty rest d ok nm sd es gs r =
-          let next = print_argument spell sins depth views (a + private_count x) (n + variable_count x) y rest in
-          (next, gathered_is x ts depth g views env h a n (ArrayOf ok.0 ok.1) next d ok.4 nm.0 sd.0 es gs r, gathered_is y ts depth g views env h (a + private_count x) (n + variable_count x) (ArrayOf ok.0 ok.2) rest d ok.5 nm.1 sd.1 es gs r)
-      gathered_is (Project false x) ts depth g views env h a n ty rest d ok nm sd es gs r = gathered_is x ts depth g views env h a n (PairOf ty ok.0) rest d ok.1 nm sd es gs r
-      gathered_is (Project true x) ts depth g views env h a n ty rest d ok nm sd es gs r = gathered_is x ts depth g views env h a n (PairOf ok.0 ty) rest d ok.1 nm sd es gs r
-      gathered_is (Reshape y x) ts depth g views env h a n ty rest d ok nm sd es gs r = gathered_is x ts depth g views env h a n ok.0 rest d ok.1 nm sd es gs r
-      gathered_is (LetArray v b) ts depth g views env h a n ty rest d ok nm sd es gs r =
+      gathered_is (Bound v) ts depth lies g views env h a n ty rest d ok nm sd fs es gs r = refl
+      gathered_is (Source v) ts depth lies g views env h a n ty rest d ok nm sd fs es gs r = refl
+      gathered_is (Both false x y) ts depth lies g views env h a n ty rest d ok nm sd fs es gs r =
+          let next = print_argument spell sins depth views (a + private_count x) (more n (variable_count x)) y rest in
+          (next, gathered_is x ts depth lies g views env h a n ok.0 next d ok.5 nm.0 sd.0 fs.0 es gs r, gathered_is y ts depth lies g views env h (a + private_count x) (more n (variable_count x)) ok.1 rest d ok.6 nm.1 sd.1 fs.1 es gs r)
+      gathered_is (Both true x y) ts depth lies g views env h a n ty rest d ok nm sd fs es gs r =
+          let next = print_argument spell sins depth views (a + private_count x) (more n (variable_count x)) y rest in
+          (next, gathered_is x ts depth lies g views env h a n (ArrayOf ok.0 ok.1) next d ok.4 nm.0 sd.0 fs.0 es gs r, gathered_is y ts depth lies g views env h (a + private_count x) (more n (variable_count x)) (ArrayOf ok.0 ok.2) rest d ok.5 nm.1 sd.1 fs.1 es gs r)
+      gathered_is (Project false x) ts depth lies g views env h a n ty rest d ok nm sd fs es gs r = gathered_is x ts depth lies g views env h a n (PairOf ty ok.0) rest d ok.1 nm sd fs es gs r
+      gathered_is (Project true x) ts depth lies g views env h a n ty rest d ok nm sd fs es gs r = gathered_is x ts depth lies g views env h a n (PairOf ok.0 ty) rest d ok.1 nm sd fs es gs r
+      gathered_is (Reshape y x) ts depth lies g views env h a n ty rest d ok nm sd fs es gs r = gathered_is x ts depth lies g views env h a n ok.0 rest d ok.1 nm sd fs es gs r
+      gathered_is (LetArray v b) ts depth lies g views env h a n ty rest d ok nm sd fs es gs r =
           let x = argument_view private_arrays spell sins views a v in
           let y = argument_marks l ins num env a v in
-          let next = print_argument spell sins depth (push x views) (a + private_count v) (n + variable_count v) b rest in (
+          let next = print_argument spell sins depth (push x views) (a + private_count v) (more n (variable_count v)) b rest in (
             next,
-            gathered_is v ts depth g views env h a n ok.0 next d ok.1 nm.0 sd.0 es gs r,
-            gathered_is b ts depth (push ok.0 g) (push x views) (push y env) (push (held_scalars h v) h) (a + private_count v) (n + variable_count v) ty rest d ok.2 nm.1 sd.1 (all_push l item ts ok.0 x y g views env (shown v ts g views env h a ok.0 ok.1 nm.0 sd.0 es gs) es) gs
-                (held_push l item ok.0 y (held_scalars h v) g env h (λ cs w z. kept_is private_arrays l item num src ins v g env h a ok.0 cs ok.1 w z r) r),
+            gathered_is v ts depth lies g views env h a n ok.0 next d ok.1 nm.0 sd.0 fs.2 es gs r,
+            gathered_is b ts depth (push fs.0 lies) (push ok.0 g) (push x views) (push y env) (push (held_scalars h v) h) (a + private_count v) (more n (variable_count v)) ty rest d ok.2 nm.1 sd.1 fs.3 (shown_push v ts lies g views env h a ok.0 fs.0 ok.1 nm.0 sd.0 es gs fs.1) gs
+                (kept_push v g views env h a ok.0 ok.1 r),
           )
-      gathered_is (Copy PrivateMemory u x) ts depth g views env h a n ty rest d ok nm sd es gs r =
+      gathered_is (Copy PrivateMemory u x) ts depth lies g views env h a n ty rest d ok nm sd fs es gs r =
           let first = a + private_count x in
-          written_is x ts depth g views env h a n u (laid_view Private first u) (laid_in Private first u) rest d (subst (HasType num src g x) ok.0 ok.2) nm.2 sd es gs r (laid_cells l item num spell spelled ts Private first u ok.1 nm.1 nm.0)
-      gathered_is _ ts depth g views env h a n ty rest d ok nm sd es gs r = absurd sd
+          written_is x ts depth lies g views env h a n u Loose (laid_view Private first u) (laid_in Private first u) rest d (subst (HasType num src g x) ok.0 ok.2) nm.2 sd fs es gs r (laid_cells l item num spell spelled ts Private first u ok.1 nm.1 nm.0) tt
+      gathered_is _ ts depth lies g views env h a n ty rest d ok nm sd fs es gs r = absurd sd
 
-      pub written_is : (t : Term A) (ts : List ℕ) (depth : ℕ) (g : ℕ → Ty) (views : ℕ → View) (env : ℕ → Marks) (h : ℕ → List Bool → Bool) (a n : ℕ) (ty : Ty) (v : View) (w : Marks) (rest : Code) → length ts ≡ depth → HasType num src g t ty → LoadsSuffice h t → Stands true t → AllShow l item ts g views env → AllShow l item ts src sins ins → HeldIn l item g env h → HasCells l item ts ty v w
+      pub written_is : (t : Term A) (ts : List ℕ) (depth : ℕ) (lies : ℕ → Lie) (g : ℕ → Ty) (views : ℕ → View) (env : ℕ → Marks) (h : ℕ → List Bool → Bool) (a : ℕ) (n : Count) (ty : Ty) (z : Lie) (v : View) (w : Marks) (rest : Code) → length ts ≡ depth → HasType num src g t ty → LoadsSuffice h t → Stands true t → WritesFours lies z t → AllShow l item ts lies g views env → AllShow l item ts (λ v. Whole) src sins ins → HeldIn g views env h → HasCells l item ts ty v w → LiesAs l item z ts ty v w
           → IsWritten l item ins num ts env a n t w (print_written spell sins depth views a n t v rest) rest
-      written_is (Store u t) ts depth g views env h a n ty v w rest d ok nm sd es gs r cells =
+      written_is (Store u t) ts depth lies g views env h a n ty z v w rest d ok nm sd fs es gs r cells lie =
           let last = print_stored u (sign_exprs views n t) v rest in (
             last,
-            element_is l item ins num src ts t g views env h n ty last ok.2 nm.1 es r,
-            stored_is l item ins ts u (exprs env n t) (sign_exprs views n t) w v rest ok.1 (λ cs z. exprs_same l item num src ts t g views env n u cs (subst (HasType num src g t) ok.0 ok.2) z es) (λ cs z. defined l item num src t g env h n u cs (subst (HasType num src g t) ok.0 ok.2) z (nm.0 cs z) r) (subst (λ z. HasCells l item ts z v w) ok.0 cells),
+            element_is num src t g views env h n ty last ok.2 nm.1 r,
+            stored_is l item ins ts z u (sign_exprs views n t) (exprs env n t) v w rest ok.1 (exprs_of num src t g views env h n u ok.1 (subst (HasType num src g t) ok.0 ok.2) nm.0 r) fs (subst (λ q. HasCells l item ts q v w) ok.0 cells) (subst (λ q. LiesAs l item z ts q v w) ok.0 lie),
           )
-      written_is (Reshape y t) ts depth g views env h a n ty v w rest d ok nm sd es gs r cells =
-          (sd.0, written_is t ts depth g views env h a n ok.0 (λ cs is. v cs (result_indices spell y is)) (λ cs q. w cs (result_position num y q)) rest d ok.1 nm sd.1 es gs r (back_cells l item num spell spelled ts y ok.0 ty v w sd.0 ok.2 ok.3 ok.4 cells))
-      written_is (LetArray x b) ts depth g views env h a n ty v w rest d ok nm sd es gs r cells =
+      written_is (Reshape y t) ts depth lies g views env h a n ty z v w rest d ok nm sd fs es gs r cells lie = (
+        sd.0,
+        written_is t ts depth lies g views env h a n ok.0 (written_lie y fs.0) (rewritten_view spell y v) (λ cs q. w cs (result_position num y q)) rest d ok.1 nm sd.1 fs.2 es gs r (back_cells l item num spell spelled ts y ok.0 ty v w sd.0 ok.2 ok.3 ok.4 cells)
+            (written_lies l item num spell spelled y fs.0 ts ok.0 ty v w sd.0 ok.2 ok.3 ok.4 (lie_serves l item z fs.0 ts ty v w fs.1 lie)),
+      )
+      written_is (LetArray x b) ts depth lies g views env h a n ty z v w rest d ok nm sd fs es gs r cells lie =
           let e = argument_view private_arrays spell sins views a x in
           let f = argument_marks l ins num env a x in
-          let next = print_written spell sins depth (push e views) (a + private_count x) (n + variable_count x) b v rest in
-          let p = gathered_is x ts depth g views env h a n ok.0 next d ok.1 nm.0 sd.0 es gs r in
-          (next, p, written_is b ts depth (push ok.0 g) (push e views) (push f env) (push (held_scalars h x) h) (a + private_count x) (n + variable_count x) ty v w rest d ok.2 nm.1 sd.1 (all_push l item ts ok.0 e f g views env (shown x ts g views env h a ok.0 ok.1 nm.0 sd.0 es gs) es) gs (held_push l item ok.0 f (held_scalars h x) g env h (λ cs i z. kept_is private_arrays l item num src ins x g env h a ok.0 cs ok.1 i z r) r) cells)
-      written_is (LetElement u x b) ts depth g views env h a n ty v w rest d ok nm sd es gs r cells =
-          let n1 = n + let_variables x in
+          let next = print_written spell sins depth (push e views) (a + private_count x) (more n (variable_count x)) b v rest in (
+            next,
+            gathered_is x ts depth lies g views env h a n ok.0 next d ok.1 nm.0 sd.0 fs.2 es gs r,
+            written_is b ts depth (push fs.0 lies) (push ok.0 g) (push e views) (push f env) (push (held_scalars h x) h) (a + private_count x) (more n (variable_count x)) ty z v w rest d ok.2 nm.1 sd.1 fs.3 (shown_push x ts lies g views env h a ok.0 fs.0 ok.1 nm.0 sd.0 es gs fs.1) gs (kept_push x g views env h a ok.0 ok.1 r) cells lie,
+          )
+      written_is (LetElement u x b) ts depth lies g views env h a n ty z v w rest d ok nm sd fs es gs r cells lie =
+          let n1 = more n (let_variables x) in
+          let n2 = more n1 (held_count u) in
           let views2 = push (held_view u n1) views in
           let env2 = push (held_marks u n1) env in
-          let last = print_written spell sins depth views2 a (n1 + width u) b v rest in (
+          let last = print_written spell sins depth views2 a n2 b v rest in (
             print_assigned u (sign_exprs views n x) n1 last,
             last,
-            element_is l item ins num src ts x g views env h n u _ ok.1 nm.1 es r,
-            assigned_is l item ins u (exprs env n x) (sign_exprs views n x) n1 last ok.0 (λ cs z. exprs_same l item num src ts x g views env n u cs ok.1 z es) (λ cs z. defined l item num src x g env h n u cs ok.1 z (nm.0 cs z) r),
-            written_is b ts depth (push u g) views2 env2 (push all h) a (n1 + width u) ty v w rest d ok.2 nm.2 sd (all_push l item ts u (held_view u n1) (held_marks u n1) g views env (held_shows l item ts u n1 ok.0) es) gs (held_push l item u (held_marks u n1) all g env h (λ cs z q. held_all l item u n1 cs z) r) cells,
+            element_is num src x g views env h n u _ ok.1 nm.1 r,
+            assigned_is u (sign_exprs views n x) (exprs env n x) n1 last ok.0 (exprs_of num src x g views env h n u ok.0 ok.1 nm.0 r),
+            written_is b ts depth (push (held_lie u) lies) (push u g) views2 env2 (push all h) a n2 ty z v w rest d ok.2 nm.2 sd fs (all_push l item ts (held_lie u) u (held_view u n1) (held_marks u n1) lies g views env (held_shows l item ts u (held_view u n1) (held_marks u n1)) es) gs
+                (held_push u (held_view u n1) (held_marks u n1) all g views env h (λ cs q k. held_exprs u n1 ok.0 cs q) r) cells lie,
           )
-      written_is (Map Sequential z0 loads xs b) ts depth g views env h a n ty v w rest d ok nm sd es gs r cells =
+      written_is (Map Sequential z0 loads xs b) ts depth lies g views env h a n ty z v w rest d ok nm sd fs es gs r cells lie =
           let len = num z0 in
           let e = argument_view private_arrays spell sins views a xs in
           let f = argument_marks l ins num env a xs in
-          let n1 = n + variable_count xs in
-          let x = loaded_view loads (view_at (LoopVariable depth) e) n1 in
-          let views2 = push x views in
-          let inner = print_written spell sins (suc depth) views2 (a + private_count xs) (n1 + load_count loads) b (view_at (LoopVariable depth) v) End in
-          let body = print_loaded loads (view_at (LoopVariable depth) e) n1 inner in
+          let n1 = more n (variable_count xs) in
+          let x = view_at (LoopVariable depth) e in
+          let views2 = push (loaded_view loads x n1) views in
+          let inner = print_written spell sins (suc depth) views2 (a + private_count xs) (more n1 (load_count loads)) b (view_at (LoopVariable depth) v) End in
+          let body = print_loaded loads x n1 inner in
           let loop = Loops (start_of Sequential) (spell z0) (stride_of Sequential) body rest in
-          let p = gathered_is xs ts depth g views env h a n (ArrayOf len ok.0) loop d ok.4 nm.0 sd.0 es gs r in
-          let cells2 = subst (λ z. HasCells l item ts z v w) ok.6 cells in (
+          let p = shown xs ts lies g views env h a (ArrayOf len ok.0) fs.0 ok.4 nm.0 sd.0 es gs fs.1 in
+          let cells2 = subst (λ q. HasCells l item ts q v w) ok.6 cells in
+          let lie2 = subst (λ q. LiesAs l item z ts q v w) ok.6 lie in (
             loop,
-            p,
+            gathered_is xs ts depth lies g views env h a n (ArrayOf len ok.0) loop d ok.4 nm.0 sd.0 fs.2 es gs r,
             (
               spell z0,
               body,
@@ -297,68 +315,69 @@ module _ (l : Launch) (item : ℕ) {A : Type 0} (num : A → ℕ) (spell : A →
               λ i lt own.
                   let ts2 = ts ++ i ∷ [] in
                   let y = loaded_marks loads (at_index i f) n1 in
-                  let c = turned_cells l item ts depth i len ok.0 e f d lt ok.2 (shown xs ts g views env h a (ArrayOf len ok.0) ok.4 nm.0 sd.0 es gs) in
-                  let d2 : length ts2 ≡ suc depth = (let z = length-append ts (i ∷ []) in omega arith) in
-                  let es2 = all_push l item ts2 ok.0 x y g views env (loaded_shows l item ins ts2 loads ok.0 (view_at (LoopVariable depth) e) (at_index i f) n1 ok.3 c) (all_within l item ts i g views env es) in
-                  let r2 = held_push l item ok.0 y (covers loads) g env h (λ cs z q. loaded_held l item loads (at_index i f) n1 cs q) r in (
+                  let d2 : length ts2 ≡ suc depth = (let q = length-append ts (i ∷ []) in omega arith) in
+                  let turn = at_turn ts2 lies g views env h (element_lie fs.0) loads ok.0 x (at_index i f) n1 ok.3 fs.3 (turned_cells l item ts depth i len ok.0 e f d lt ok.2 p.0) (turned_lies l item fs.0 ts depth i len ok.0 e f d lt ok.2 p.1) (all_within l item ts i lies g views env es) r in (
                     inner,
-                    loaded_is l item ins ts2 loads ok.0 (view_at (LoopVariable depth) e) (at_index i f) n1 inner ok.3 c,
-                    written_is b ts2 (suc depth) (push ok.0 g) views2 (push y env) (push (covers loads) h) (a + private_count xs) (n1 + load_count loads) ok.1 (view_at (LoopVariable depth) v) (at_index i w) End d2 ok.5 nm.1 sd.1 es2 (all_within l item ts i src sins ins gs) r2
-                        (turned_cells l item ts depth i len ok.1 v w d lt ok.2 cells2),
+                    turn.work inner,
+                    written_is b ts2 (suc depth) (push (bound_lie loads (element_lie fs.0)) lies) (push ok.0 g) views2 (push y env) (push (covers loads) h) (a + private_count xs) (more n1 (load_count loads)) ok.1 (element_lie z) (view_at (LoopVariable depth) v) (at_index i w) End d2 ok.5 nm.1 sd.1 fs.4 turn.shows (all_within l item ts i (λ v. Whole) src sins ins gs) turn.held
+                        (turned_cells l item ts depth i len ok.1 v w d lt ok.2 cells2) (turned_lies l item z ts depth i len ok.1 v w d lt ok.2 lie2),
                   ),
             ),
           )
-      written_is (Fold z0 loads yt xs s b) ts depth g views env h a n ty v w rest d ok nm sd es gs r cells =
+      written_is (Fold z0 loads yt xs s b) ts depth lies g views env h a n ty z v w rest d ok nm sd fs es gs r cells lie =
           let len = num z0 in
           let e = argument_view private_arrays spell sins views a xs in
           let f = argument_marks l ins num env a xs in
-          let n1 = n + variable_count xs in
-          let n2 = n1 + let_variables s in
+          let n1 = more n (variable_count xs) in
+          let n2 = more n1 (let_variables s) in
           let last = print_stored yt (λ cs. held_sign (held_view yt n2 cs [])) (view_at (Number 0) v) rest in
           let body = print_fold_turn views loads yt (view_at (LoopVariable depth) e) n2 b in
           let loop = Loops (start_of Sequential) (spell z0) (stride_of Sequential) body last in
           let assign = print_assigned yt (sign_exprs views n1 s) n2 loop in
           let start = print_element views n1 s assign in
-          let p = gathered_is xs ts depth g views env h a n (ArrayOf len ok.0) start d ok.4 nm.0 sd es gs r in
-          let cells2 = subst (λ z. HasCells l item ts z v w) ok.7 cells in (
+          let p = shown xs ts lies g views env h a (ArrayOf len ok.0) fs.0 ok.4 nm.0 sd es gs fs.1 in
+          let cells2 = subst (λ q. HasCells l item ts q v w) ok.7 cells in
+          let lie2 = subst (λ q. LiesAs l item z ts q v w) ok.7 lie in (
             start,
             assign,
             loop,
             last,
-            p,
-            element_is l item ins num src ts s g views env h n1 yt assign ok.5 nm.2 es r,
-            assigned_is l item ins yt (exprs env n1 s) (sign_exprs views n1 s) n2 loop ok.3 (λ cs z. exprs_same l item num src ts s g views env n1 yt cs ok.5 z es) (λ cs z. defined l item num src s g env h n1 yt cs ok.5 z (nm.1 cs z) r),
+            gathered_is xs ts depth lies g views env h a n (ArrayOf len ok.0) start d ok.4 nm.0 sd fs.2 es gs r,
+            element_is num src s g views env h n1 yt assign ok.5 nm.2 r,
+            assigned_is yt (sign_exprs views n1 s) (exprs env n1 s) n2 loop ok.3 (exprs_of num src s g views env h n1 yt ok.3 ok.5 nm.1 r),
             (
               spell z0,
               body,
               refl,
               (spelled z0 ok.1).0,
-              λ i lt own.
-                  turn_is (ts ++ i ∷ []) g views env h loads ok.0 yt (view_at (LoopVariable depth) e) (at_index i f) n2 b ok.2 ok.3 ok.6 nm.3 nm.4 (turned_cells l item ts depth i len ok.0 e f d lt ok.1 (shown xs ts g views env h a (ArrayOf len ok.0) ok.4 nm.0 sd es gs)) (all_within l item ts i g views env es) r,
+              λ i lt own. turn_is (ts ++ i ∷ []) g views env h (element_lie fs.0) loads ok.0 yt (view_at (LoopVariable depth) e) (at_index i f) n2 b ok.2 fs.3 ok.3 ok.6 nm.3 nm.4 (turned_cells l item ts depth i len ok.0 e f d lt ok.1 p.0) (turned_lies l item fs.0 ts depth i len ok.0 e f d lt ok.1 p.1) r,
             ),
-            stored_is l item ins ts yt (λ cs. held (held_marks yt n2 cs [])) (λ cs. held_sign (held_view yt n2 cs [])) (at_index 0 w) (view_at (Number 0) v) rest ok.3
-                (λ cs z. bound_same l item ts yt (held_view yt n2) (held_marks yt n2) cs z (held_shows l item ts yt n2 ok.3)) (λ cs z. held_all l item yt n2 cs z) (first_cells l item ts yt v w cells2),
+            stored_is l item ins ts (element_lie z) yt (λ cs. held_sign (held_view yt n2 cs [])) (λ cs. held (held_marks yt n2 cs)) (view_at (Number 0) v) (at_index 0 w) rest ok.3 (held_exprs yt n2 ok.3) fs.4 (first_cells l item ts yt v w cells2) (first_lies l item z ts yt v w lie2),
           )
-      written_is _ ts depth g views env h a n ty v w rest d ok nm sd es gs r cells = absurd sd
+      written_is _ ts depth lies g views env h a n ty z v w rest d ok nm sd fs es gs r cells lie = absurd sd
 
-    along_is : (t : Term A) (ts : List ℕ) (depth : ℕ) (g : ℕ → Ty) (views : ℕ → View) (env : ℕ → Marks) (h : ℕ → List Bool → Bool) (a n : ℕ) (ty : Ty) (v : View) (w : Marks) (rest : Code) → length ts ≡ depth → HasType num src g t ty → LoadsSuffice h t → StandsAlongRow t → AllShow l item ts g views env → AllShow l item ts src sins ins → HeldIn l item g env h → HasCells l item ts ty v w
+    along_is : (t : Term A) (ts : List ℕ) (depth : ℕ) (lies : ℕ → Lie) (g : ℕ → Ty) (views : ℕ → View) (env : ℕ → Marks) (h : ℕ → List Bool → Bool) (a : ℕ) (n : Count) (ty : Ty) (z : Lie) (v : View) (w : Marks) (rest : Code) → length ts ≡ depth → HasType num src g t ty → LoadsSuffice h t → StandsAlongRow t → WritesFours lies z t → AllShow l item ts lies g views env → AllShow l item ts (λ v. Whole) src sins ins → HeldIn g views env h → HasCells l item ts ty v w → LiesAs l item z ts ty v w
         → IsAlongRow l item ins num ts env a n t w (print_written spell sins depth views a n t v rest) rest
-    along_is (Reshape y t) ts depth g views env h a n ty v w rest d ok nm sd es gs r cells =
-        (sd.0, along_is t ts depth g views env h a n ok.0 (λ cs is. v cs (result_indices spell y is)) (λ cs q. w cs (result_position num y q)) rest d ok.1 nm sd.1 es gs r (back_cells l item num spell spelled ts y ok.0 ty v w sd.0 ok.2 ok.3 ok.4 cells))
-    along_is (Map Global z0 loads xs b) ts depth g views env h a n ty v w rest d ok nm sd es gs r cells =
+    along_is (Reshape y t) ts depth lies g views env h a n ty z v w rest d ok nm sd fs es gs r cells lie = (
+      sd.0,
+      along_is t ts depth lies g views env h a n ok.0 (written_lie y fs.0) (rewritten_view spell y v) (λ cs q. w cs (result_position num y q)) rest d ok.1 nm sd.1 fs.2 es gs r (back_cells l item num spell spelled ts y ok.0 ty v w sd.0 ok.2 ok.3 ok.4 cells)
+          (written_lies l item num spell spelled y fs.0 ts ok.0 ty v w sd.0 ok.2 ok.3 ok.4 (lie_serves l item z fs.0 ts ty v w fs.1 lie)),
+    )
+    along_is (Map Global z0 loads xs b) ts depth lies g views env h a n ty z v w rest d ok nm sd fs es gs r cells lie =
         let len = num z0 in
         let e = argument_view private_arrays spell sins views a xs in
         let f = argument_marks l ins num env a xs in
-        let n1 = n + variable_count xs in
-        let x = loaded_view loads (view_at (LoopVariable depth) e) n1 in
-        let views2 = push x views in
-        let inner = print_written spell sins (suc depth) views2 (a + private_count xs) (n1 + load_count loads) b (view_at (LoopVariable depth) v) End in
-        let body = print_loaded loads (view_at (LoopVariable depth) e) n1 inner in
+        let n1 = more n (variable_count xs) in
+        let x = view_at (LoopVariable depth) e in
+        let views2 = push (loaded_view loads x n1) views in
+        let inner = print_written spell sins (suc depth) views2 (a + private_count xs) (more n1 (load_count loads)) b (view_at (LoopVariable depth) v) End in
+        let body = print_loaded loads x n1 inner in
         let loop = Loops (start_of Global) (spell z0) (stride_of Global) body rest in
-        let p = gathered_is xs ts depth g views env h a n (ArrayOf len ok.0) loop d ok.4 nm.0 sd.0 es gs r in
-        let cells2 = subst (λ z. HasCells l item ts z v w) ok.6 cells in (
+        let p = shown xs ts lies g views env h a (ArrayOf len ok.0) fs.0 ok.4 nm.0 sd.0 es gs fs.1 in
+        let cells2 = subst (λ q. HasCells l item ts q v w) ok.6 cells in
+        let lie2 = subst (λ q. LiesAs l item z ts q v w) ok.6 lie in (
           loop,
-          p,
+          gathered_is xs ts depth lies g views env h a n (ArrayOf len ok.0) loop d ok.4 nm.0 sd.0 fs.2 es gs r,
           (
             spell z0,
             body,
@@ -367,44 +386,48 @@ module _ (l : Launch) (item : ℕ) {A : Type 0} (num : A → ℕ) (spell : A →
             λ i lt own.
                 let ts2 = ts ++ i ∷ [] in
                 let y = loaded_marks loads (at_index i f) n1 in
-                let c = turned_cells l item ts depth i len ok.0 e f d lt ok.2 (shown xs ts g views env h a (ArrayOf len ok.0) ok.4 nm.0 sd.0 es gs) in
-                let d2 : length ts2 ≡ suc depth = (let z = length-append ts (i ∷ []) in omega arith) in
-                let es2 = all_push l item ts2 ok.0 x y g views env (loaded_shows l item ins ts2 loads ok.0 (view_at (LoopVariable depth) e) (at_index i f) n1 ok.3 c) (all_within l item ts i g views env es) in
-                let r2 = held_push l item ok.0 y (covers loads) g env h (λ cs z q. loaded_held l item loads (at_index i f) n1 cs q) r in (
+                let d2 : length ts2 ≡ suc depth = (let q = length-append ts (i ∷ []) in omega arith) in
+                let turn = at_turn ts2 lies g views env h (element_lie fs.0) loads ok.0 x (at_index i f) n1 ok.3 fs.3 (turned_cells l item ts depth i len ok.0 e f d lt ok.2 p.0) (turned_lies l item fs.0 ts depth i len ok.0 e f d lt ok.2 p.1) (all_within l item ts i lies g views env es) r in (
                   inner,
-                  loaded_is l item ins ts2 loads ok.0 (view_at (LoopVariable depth) e) (at_index i f) n1 inner ok.3 c,
-                  written_is b ts2 (suc depth) (push ok.0 g) views2 (push y env) (push (covers loads) h) (a + private_count xs) (n1 + load_count loads) ok.1 (view_at (LoopVariable depth) v) (at_index i w) End d2 ok.5 nm.1 sd.1 es2 (all_within l item ts i src sins ins gs) r2
-                      (turned_cells l item ts depth i len ok.1 v w d lt ok.2 cells2),
+                  turn.work inner,
+                  written_is b ts2 (suc depth) (push (bound_lie loads (element_lie fs.0)) lies) (push ok.0 g) views2 (push y env) (push (covers loads) h) (a + private_count xs) (more n1 (load_count loads)) ok.1 (element_lie z) (view_at (LoopVariable depth) v) (at_index i w) End d2 ok.5 nm.1 sd.1 fs.4 turn.shows (all_within l item ts i (λ v. Whole) src sins ins gs) turn.held
+                      (turned_cells l item ts depth i len ok.1 v w d lt ok.2 cells2) (turned_lies l item z ts depth i len ok.1 v w d lt ok.2 lie2),
                 ),
           ),
         )
-    along_is _ ts depth g views env h a n ty v w rest d ok nm sd es gs r cells = absurd sd
+    along_is _ ts depth lies g views env h a n ty z v w rest d ok nm sd fs es gs r cells lie = absurd sd
 
-    pub over_launch_is : (t : Term A) (g : ℕ → Ty) (views : ℕ → View) (env : ℕ → Marks) (h : ℕ → List Bool → Bool) (a n : ℕ) (ty : Ty) (v : View) (w : Marks) (rest : Code) → HasType num src g t ty → LoadsSuffice h t → StandsOverLaunch t → AllShow l item [] g views env → AllShow l item [] src sins ins → HeldIn l item g env h → HasCells l item [] ty v w
+    pub over_launch_is : (t : Term A) (lies : ℕ → Lie) (g : ℕ → Ty) (views : ℕ → View) (env : ℕ → Marks) (h : ℕ → List Bool → Bool) (a : ℕ) (n : Count) (ty : Ty) (z : Lie) (v : View) (w : Marks) (rest : Code) → HasType num src g t ty → LoadsSuffice h t → StandsOverLaunch t → WritesFours lies z t → AllShow l item [] lies g views env → AllShow l item [] (λ v. Whole) src sins ins → HeldIn g views env h → HasCells l item [] ty v w → LiesAs l item z [] ty v w
         → IsOverLaunch l item ins num env a n t w (print_written spell sins 0 views a n t v rest) rest
-    over_launch_is (Reshape y t) g views env h a n ty v w rest ok nm sd es gs r cells =
-        (sd.0, over_launch_is t g views env h a n ok.0 (λ cs is. v cs (result_indices spell y is)) (λ cs q. w cs (result_position num y q)) rest ok.1 nm sd.1 es gs r (back_cells l item num spell spelled [] y ok.0 ty v w sd.0 ok.2 ok.3 ok.4 cells))
-    over_launch_is (LetArray x b) g views env h a n ty v w rest ok nm sd es gs r cells =
+    over_launch_is (Reshape y t) lies g views env h a n ty z v w rest ok nm sd fs es gs r cells lie = (
+      sd.0,
+      over_launch_is t lies g views env h a n ok.0 (written_lie y fs.0) (rewritten_view spell y v) (λ cs q. w cs (result_position num y q)) rest ok.1 nm sd.1 fs.2 es gs r (back_cells l item num spell spelled [] y ok.0 ty v w sd.0 ok.2 ok.3 ok.4 cells)
+          (written_lies l item num spell spelled y fs.0 [] ok.0 ty v w sd.0 ok.2 ok.3 ok.4 (lie_serves l item z fs.0 [] ty v w fs.1 lie)),
+    )
+    over_launch_is (LetArray x b) lies g views env h a n ty z v w rest ok nm sd fs es gs r cells lie =
         let e = argument_view private_arrays spell sins views a x in
         let f = argument_marks l ins num env a x in
-        let next = print_written spell sins 0 (push e views) (a + private_count x) (n + variable_count x) b v rest in
-        let p = gathered_is x [] 0 g views env h a n ok.0 next refl ok.1 nm.0 sd.0 es gs r in
-        (next, p, over_launch_is b (push ok.0 g) (push e views) (push f env) (push (held_scalars h x) h) (a + private_count x) (n + variable_count x) ty v w rest ok.2 nm.1 sd.1 (all_push l item [] ok.0 e f g views env (shown x [] g views env h a ok.0 ok.1 nm.0 sd.0 es gs) es) gs (held_push l item ok.0 f (held_scalars h x) g env h (λ cs i z. kept_is private_arrays l item num src ins x g env h a ok.0 cs ok.1 i z r) r) cells)
-    over_launch_is (Map Global z0 loads xs b) g views env h a n ty v w rest ok nm sd es gs r cells = along_is (Map Global z0 loads xs b) [] 0 g views env h a n ty v w rest refl ok nm sd es gs r cells
-    over_launch_is (Map GlobalRows z0 loads xs b) g views env h a n ty v w rest ok nm sd es gs r cells =
+        let next = print_written spell sins 0 (push e views) (a + private_count x) (more n (variable_count x)) b v rest in (
+          next,
+          gathered_is x [] 0 lies g views env h a n ok.0 next refl ok.1 nm.0 sd.0 fs.2 es gs r,
+          over_launch_is b (push fs.0 lies) (push ok.0 g) (push e views) (push f env) (push (held_scalars h x) h) (a + private_count x) (more n (variable_count x)) ty z v w rest ok.2 nm.1 sd.1 fs.3 (shown_push x [] lies g views env h a ok.0 fs.0 ok.1 nm.0 sd.0 es gs fs.1) gs (kept_push x g views env h a ok.0 ok.1 r) cells lie,
+        )
+    over_launch_is (Map Global z0 loads xs b) lies g views env h a n ty z v w rest ok nm sd fs es gs r cells lie = along_is (Map Global z0 loads xs b) [] 0 lies g views env h a n ty z v w rest refl ok nm sd fs es gs r cells lie
+    over_launch_is (Map GlobalRows z0 loads xs b) lies g views env h a n ty z v w rest ok nm sd fs es gs r cells lie =
         let len = num z0 in
         let e = argument_view private_arrays spell sins views a xs in
         let f = argument_marks l ins num env a xs in
-        let n1 = n + variable_count xs in
-        let x = loaded_view loads (view_at (LoopVariable 0) e) n1 in
-        let views2 = push x views in
-        let inner = print_written spell sins 1 views2 (a + private_count xs) (n1 + load_count loads) b (view_at (LoopVariable 0) v) End in
-        let body = print_loaded loads (view_at (LoopVariable 0) e) n1 inner in
+        let n1 = more n (variable_count xs) in
+        let x = view_at (LoopVariable 0) e in
+        let views2 = push (loaded_view loads x n1) views in
+        let inner = print_written spell sins 1 views2 (a + private_count xs) (more n1 (load_count loads)) b (view_at (LoopVariable 0) v) End in
+        let body = print_loaded loads x n1 inner in
         let loop = Loops (start_of GlobalRows) (spell z0) (stride_of GlobalRows) body rest in
-        let p = gathered_is xs [] 0 g views env h a n (ArrayOf len ok.0) loop refl ok.4 nm.0 sd.0 es gs r in
-        let cells2 = subst (λ z. HasCells l item [] z v w) ok.6 cells in (
+        let p = shown xs [] lies g views env h a (ArrayOf len ok.0) fs.0 ok.4 nm.0 sd.0 es gs fs.1 in
+        let cells2 = subst (λ q. HasCells l item [] q v w) ok.6 cells in
+        let lie2 = subst (λ q. LiesAs l item z [] q v w) ok.6 lie in (
           loop,
-          p,
+          gathered_is xs [] 0 lies g views env h a n (ArrayOf len ok.0) loop refl ok.4 nm.0 sd.0 fs.2 es gs r,
           (
             spell z0,
             body,
@@ -413,14 +436,12 @@ module _ (l : Launch) (item : ℕ) {A : Type 0} (num : A → ℕ) (spell : A →
             λ i lt own.
                 let ts2 = [] ++ i ∷ [] in
                 let y = loaded_marks loads (at_index i f) n1 in
-                let c = turned_cells l item [] 0 i len ok.0 e f refl lt ok.2 (shown xs [] g views env h a (ArrayOf len ok.0) ok.4 nm.0 sd.0 es gs) in
-                let es2 = all_push l item ts2 ok.0 x y g views env (loaded_shows l item ins ts2 loads ok.0 (view_at (LoopVariable 0) e) (at_index i f) n1 ok.3 c) (all_within l item [] i g views env es) in
-                let r2 = held_push l item ok.0 y (covers loads) g env h (λ cs z q. loaded_held l item loads (at_index i f) n1 cs q) r in (
+                let turn = at_turn ts2 lies g views env h (element_lie fs.0) loads ok.0 x (at_index i f) n1 ok.3 fs.3 (turned_cells l item [] 0 i len ok.0 e f refl lt ok.2 p.0) (turned_lies l item fs.0 [] 0 i len ok.0 e f refl lt ok.2 p.1) (all_within l item [] i lies g views env es) r in (
                   inner,
-                  loaded_is l item ins ts2 loads ok.0 (view_at (LoopVariable 0) e) (at_index i f) n1 inner ok.3 c,
-                  along_is b ts2 1 (push ok.0 g) views2 (push y env) (push (covers loads) h) (a + private_count xs) (n1 + load_count loads) ok.1 (view_at (LoopVariable 0) v) (at_index i w) End refl ok.5 nm.1 sd.1 es2 (all_within l item [] i src sins ins gs) r2
-                      (turned_cells l item [] 0 i len ok.1 v w refl lt ok.2 cells2),
+                  turn.work inner,
+                  along_is b ts2 1 (push (bound_lie loads (element_lie fs.0)) lies) (push ok.0 g) views2 (push y env) (push (covers loads) h) (a + private_count xs) (more n1 (load_count loads)) ok.1 (element_lie z) (view_at (LoopVariable 0) v) (at_index i w) End refl ok.5 nm.1 sd.1 fs.4 turn.shows (all_within l item [] i (λ v. Whole) src sins ins gs) turn.held
+                      (turned_cells l item [] 0 i len ok.1 v w refl lt ok.2 cells2) (turned_lies l item z [] 0 i len ok.1 v w refl lt ok.2 lie2),
                 ),
           ),
         )
-    over_launch_is _ g views env h a n ty v w rest ok nm sd es gs r cells = absurd sd
+    over_launch_is _ lies g views env h a n ty z v w rest ok nm sd fs es gs r cells lie = absurd sd

@@ -52,6 +52,7 @@ use Rattle.printed_form.proofs.Theorem.{printed_kernels_keep}
 
 width_is : (ys : List ℕ) (a : PlainTy) → width (ty_at ys a) ≡ width (shape_of a)
 width_is ys types.U32 = refl
+width_is ys types.U32x4 = refl
 width_is ys (types.PairOf a b) = let x = width_is ys a in let y = width_is ys b in omega arith
 width_is ys (types.ArrayOf a n) = width_is ys a
 
@@ -94,6 +95,7 @@ no_word (x ∷ xs) e = cc
 
 input_is_array : (ys : List ℕ) (a : PlainTy) → IsInput a → types.HasType ys a (Word 0) → ⊥
 input_is_array ys types.U32 i h = i
+input_is_array ys types.U32x4 i h = i
 input_is_array ys (types.PairOf a b) i h = i
 input_is_array ys (types.ArrayOf a n) i h = no_word h.0 h.1
 
@@ -262,6 +264,7 @@ module _ (d : Declared) (asks : Asks) (w : World) (t : Tree) (a : Annotation) (l
     typed = has;
     flat_type = flat_type;
     variables = declares.variables;
+    vectors = declares.vectors;
     privates = declares.privates;
     outputs = outputs_long;
     inputs = input_given d w program.declared ok c buffers.inputs;
@@ -321,7 +324,7 @@ inputs_placed bases tys all v = go (which tys v)
     go (Absent le e) = subst (IsPlaced (length_at bases)) (sym e) (record { flat = tt; short = (omega arith, tt); small = omega arith })
 
 pub programs_are_printed : ProgramsArePrinted
-programs_are_printed d asks bases t a l spell program launch staged stands placed spelled =
+programs_are_printed d asks bases t a l spell program launch staged stands fours placed spelled =
     let num = length_at bases in
     let low = lowered_root d.names t a in
     let src = sources_at d bases in
@@ -331,7 +334,7 @@ programs_are_printed d asks bases t a l spell program launch staged stands place
       declares = declares_so d asks.local t a (kernel_code spell (first_buffer d.inputs) (input_shape d.inputs) low (shape_of (type_in a)));
       code =
           subst (λ z. IsCode l (input_marks num (first_buffer d.inputs) (input_shape d.inputs)) num low z (kernel_code spell (first_buffer d.inputs) (input_shape d.inputs) low (shape_of (type_in a)))) same
-          (code_is (List Monomial) l num spell spelled (first_buffer d.inputs) (input_shape d.inputs) low (shape_of (type_in a)) stands (subst (λ z. HasType num src no_type low z) (sym same) has) (names_suffice d bases t a program.nodes program.lowerable staged) placed.0 (inputs_placed bases d.inputs placed.1));
+          (code_is (List Monomial) l num spell spelled (first_buffer d.inputs) (input_shape d.inputs) low (shape_of (type_in a)) stands fours (subst (λ z. HasType num src no_type low z) (sym same) has) (names_suffice d bases t a program.nodes program.lowerable staged) placed.0 (inputs_placed bases d.inputs placed.1));
     }
 
 pub printed_programs_go_alike : PrintedProgramsGoAlike

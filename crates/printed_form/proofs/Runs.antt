@@ -2,7 +2,7 @@
 use Rattle.std.proofs.Common.{◌≡◌, ℕ, ◌≤◌, Bool, true, List, [], ◌∷◌, ◌++◌, Option, refl, sym, ap, ◌∙◌, subst, ⊎_elim, inl, inr, arith}
 use Rattle.std.specs.Prelude.{◌+◌, if◌then◌else◌}
 use Rattle.std.proofs.lemmas.List.{get_or-set_other, length-set}
-use Rattle.kernel_tree.specs.Formula.{Formula, Vars, set_word}
+use Rattle.kernel_tree.specs.Formula.{Formula, Lanes, Four, Vars, set_word, set_vector, spread}
 use Rattle.kernel_tree.specs.Code.{Array, Input, Output, Local, Private, Code}
 use Rattle.kernel_tree.specs.Item.{Frame, item}
 use Rattle.kernel_tree.specs.Device.{Cell, behind, cell_at, Memory, same_cell}
@@ -14,22 +14,77 @@ use Rattle.kernel_tree.proofs.Independent.{written-same, written-append, written
 use Rattle.kernel_tree.proofs.Turns.{every-append, write_count-append}
 use Rattle.lift_ir.specs.Types.{Ty}
 use Rattle.lift_ir.specs.Scalars.{Scalars}
-use Rattle.printed_form.specs.Marks.{Mark, Nowhere, Register, Spot, Marks}
-use Rattle.printed_form.specs.Runs.{Setting, Known, Kept, IsFilled, Later, HoldsAt, Holds, AllHold, Values, Wrote, nothing, no_target, known_after, Ran, Apart}
+use Rattle.printed_form.specs.Marks.{Mark, Nowhere, Register, Lane, Spot, Marks}
+use Rattle.printed_form.specs.Counts.{Count, AtMost, more, no_variables}
+use Rattle.printed_form.specs.Expressions.{Expr}
+use Rattle.printed_form.specs.Runs.{lane, Fits, HasValue, HasLanes, Values, Setting, Known, Kept, IsFilled, Later, HoldsAt, Holds, AllHold, Wrote, nothing, no_target, known_after, Ran, Apart}
+
+-- counts
+
+pub count_same : (n m : Count) → n.words ≡ m.words → n.fours ≡ m.fours → n ≡ m
+count_same n m p q =
+    let F : ℕ → ℕ → Count = λ a b. record { words = a; fours = b } in
+    ap (λ a. F a n.fours) p ∙ ap (λ b. F m.words b) q
+
+pub more_none : (n : Count) → n ≡ more n no_variables
+more_none n = count_same n (more n no_variables) (omega arith) (omega arith)
+
+pub more_more : (n a b : Count) → more (more n a) b ≡ more n (more a b)
+more_more n a b = count_same (more (more n a) b) (more n (more a b)) (omega arith) (omega arith)
+
+pub at_most : {n m : Count} → n.words ≤ m.words → n.fours ≤ m.fours → AtMost n m
+at_most p q = record { words = p; fours = q }
+
+pub as_many : (n : Count) → AtMost n n
+as_many n = at_most (omega arith) (omega arith)
+
+pub many_more : (n a : Count) → AtMost n (more n a)
+many_more n a = at_most (omega arith) (omega arith)
+
+pub at_most_of : {n m k : Count} → AtMost m k → n.words ≤ m.words → n.fours ≤ m.fours → AtMost n k
+at_most_of h p q = let a = h.words in let b = h.fours in at_most (omega arith) (omega arith)
+
+-- fewer are there, and as many later
+pub fewer : {n m : Count} {vars : Vars} → Fits m vars → n.words ≤ m.words → n.fours ≤ m.fours → Fits n vars
+fewer h p q = let a = h.words in let b = h.fours in record { words = omega arith; fours = omega arith }
+
+pub fits_later : {n k : Count} {vars later : Vars} → Fits n vars → Kept k vars later → Fits n later
+fits_later {n = n} h k = record { words = subst (λ z. n.words ≤ z) (sym k.long) h.words; fours = subst (λ z. n.fours ≤ z) (sym k.wide) h.fours }
+
+pub fewer_later : {n m k : Count} {vars later : Vars} → Fits m vars → Kept k vars later → n.words ≤ m.words → n.fours ≤ m.fours → Fits n later
+fewer_later h k p q = fits_later (fewer h p q) k
 
 -- variables
 
-pub kept : (n : ℕ) (a : Vars) → Kept n a a
-kept n a = record { long = refl; same = λ v lt. refl; vectors = refl }
+pub kept : (n : Count) (a : Vars) → Kept n a a
+kept n a = record { long = refl; wide = refl; same = λ v lt. refl; same_four = λ v lt. refl }
 
-pub kept_on : (n k : ℕ) (a b c : Vars) → n ≤ k → Kept n a b → Kept k b c → Kept n a c
-kept_on n k a b c le x y = record { long = y.long ∙ x.long; same = λ v lt. y.same v (omega arith) ∙ x.same v lt; vectors = y.vectors ∙ x.vectors }
+pub kept_on : (n k : Count) (a b c : Vars) → n.words ≤ k.words → n.fours ≤ k.fours → Kept n a b → Kept k b c → Kept n a c
+kept_on n k a b c le lf x y = record {
+  long = y.long ∙ x.long;
+  wide = y.wide ∙ x.wide;
+  same = λ v lt. y.same v (omega arith) ∙ x.same v lt;
+  same_four = λ v lt. y.same_four v (omega arith) ∙ x.same_four v lt;
+}
 
-pub kept_set : (n v x : ℕ) (a : Vars) → n ≤ v → Kept n a (set_word a v x)
-kept_set n v x a le = record { long = length-set a.words v x; same = λ w lt. get_or-set_other a.words v w x 0 (λ e. absurd (omega arith)); vectors = refl }
+pub kept_less : (n k : Count) (a b : Vars) → n.words ≤ k.words → n.fours ≤ k.fours → Kept k a b → Kept n a b
+kept_less n k a b le lf x = record { long = x.long; wide = x.wide; same = λ v lt. x.same v (omega arith); same_four = λ v lt. x.same_four v (omega arith) }
 
-pub kept_less : (n k : ℕ) (a b : Vars) → n ≤ k → Kept k a b → Kept n a b
-kept_less n k a b le x = record { long = x.long; same = λ v lt. x.same v (omega arith); vectors = x.vectors }
+pub kept_set : (n : Count) (v x : ℕ) (a : Vars) → n.words ≤ v → Kept n a (set_word a v x)
+kept_set n v x a le = record {
+  long = length-set a.words v x;
+  wide = refl;
+  same = λ w lt. get_or-set_other a.words v w x 0 (λ e. absurd (omega arith));
+  same_four = λ w lt. refl;
+}
+
+pub kept_set_four : (n : Count) (v : ℕ) (u : Four) (a : Vars) → n.fours ≤ v → Kept n a (set_vector a v u)
+kept_set_four n v u a le = record {
+  long = refl;
+  wide = length-set a.vectors v u;
+  same = λ w lt. refl;
+  same_four = λ w lt. get_or-set_other a.vectors v w u (spread 0) (λ e. absurd (omega arith));
+}
 
 -- what is known
 
@@ -40,24 +95,26 @@ filled_more l a b (Local n) le h = h
 filled_more l a b (Private n) le h = omega arith
 
 -- the same run, of which something else is told
-pub ran_so : {st : Setting} {x : Known} {fs : List Frame} {code rest : Code} {n a : ℕ} {S : Cell → Type 0} {T : Cell → ℕ → Type 0} {G H : Known → Type 0} (r : Ran st x fs code rest n a S T G) → H (known_after x r.deeds r.after n a) → Ran st x fs code rest n a S T H
+pub ran_so : {st : Setting} {x : Known} {fs : List Frame} {code rest : Code} {n : Count} {a : ℕ} {S : Cell → Type 0} {T : Cell → ℕ → Type 0} {G H : Known → Type 0} (r : Ran st x fs code rest n a S T G) → H (known_after x r.deeds r.after n a) → Ran st x fs code rest n a S T H
 ran_so r good = record { after = r.after; deeds = r.deeds; goes = r.goes; later = r.later; allowed = r.allowed; wrote = r.wrote; good = good }
 
 module _ (st : Setting) where
   pub later_same : (x : Known) → Later st x x
-  later_same x = record { more = omega arith; more_arrays = omega arith; kept = kept x.count x.vars; same = λ c f. refl }
+  later_same x = record { more = omega arith; more_fours = omega arith; more_arrays = omega arith; kept = kept x.count x.vars; same = λ c f. refl }
 
   pub later_on : (x y z : Known) → Later st x y → Later st y z → Later st x z
   later_on x y z a b = record {
     more = let p = a.more in let q = b.more in omega arith;
+    more_fours = let p = a.more_fours in let q = b.more_fours in omega arith;
     more_arrays = let p = a.more_arrays in let q = b.more_arrays in omega arith;
-    kept = kept_on x.count y.count x.vars y.vars z.vars a.more a.kept b.kept;
+    kept = kept_on x.count y.count x.vars y.vars z.vars a.more a.more_fours a.kept b.kept;
     same = λ c f. b.same c (filled_more st.locals x.arrays y.arrays c.array a.more_arrays f) ∙ a.same c f;
   }
 
   pub holds_at_later : (x y : Known) (m : Mark) (v : ℕ) → Later st x y → HoldsAt st x m v → HoldsAt st y m v
   holds_at_later x y Nowhere v r h = h
   holds_at_later x y (Register w) v r h = (let p = r.more in let q = h.0 in omega arith, r.kept.same w h.0 ∙ h.1)
+  holds_at_later x y (Lane w j) v r h = (let p = r.more_fours in let q = h.0 in omega arith, ap (λ u. lane u j) (r.kept.same_four w h.0) ∙ h.1)
   holds_at_later x y (Spot b i) v r h = record {
     within = h.within;
     may = h.may;
@@ -71,8 +128,14 @@ module _ (st : Setting) where
   pub all_hold_later : (x y : Known) (g : ℕ → Ty) (env : ℕ → Marks) (sems : ℕ → Scalars) → Later st x y → AllHold st x g env sems → AllHold st y g env sems
   all_hold_later x y g env sems r h v = holds_later x y (g v) (env v) (sems v) r (h v)
 
-  pub values_later : (ts : List ℕ) (x y : Known) (t : Ty) (f : List Bool → Option Formula) (s : Scalars) → Later st x y → Values st ts x t f s → Values st ts y t f s
-  values_later ts x y t f s r h cs e w q later k = h cs e w q later (kept_on x.count y.count x.vars y.vars later r.more r.kept k)
+  pub value_later : (ts : List ℕ) (x y : Known) (e : Formula) (n : ℕ) → Later st x y → HasValue st ts x e n → HasValue st ts y e n
+  value_later ts x y e n r h later k = h later (kept_on x.count y.count x.vars y.vars later r.more r.more_fours r.kept k)
+
+  pub lanes_later : (ts : List ℕ) (x y : Known) (e : Lanes) (s : ℕ → ℕ) → Later st x y → HasLanes st ts x e s → HasLanes st ts y e s
+  lanes_later ts x y e s r h later k = h later (kept_on x.count y.count x.vars y.vars later r.more r.more_fours r.kept k)
+
+  pub values_later : (ts : List ℕ) (x y : Known) (t : Ty) (f : List Bool → Option Expr) (s : Scalars) → Later st x y → Values st ts x t f s → Values st ts y t f s
+  values_later ts x y t f s r h = (λ cs e w q. value_later ts x y e (s cs []) r (h.0 cs e w q), λ cs e w q. lanes_later ts x y e (λ j. s cs (j ∷ [])) r (h.1 cs e w q))
 
 -- what deeds write
 
@@ -139,7 +202,7 @@ agrees_on o k m n ds h c may = written-same ds n m c (h c may)
 
 module _ (st : Setting) {S1 : Cell → Type 0} {T1 : Cell → ℕ → Type 0} {S2 : Cell → Type 0} {T2 : Cell → ℕ → Type 0} {S : Cell → Type 0} {T : Cell → ℕ → Type 0} {G1 : Known → Type 0} {G2 : Known → Type 0} where
   -- one stretch after another
-  pub ran_on : (x : Known) (fs : List Frame) (code mid rest : Code) (n1 a1 n a : ℕ) → Apart S1 T1 S2 T2 S T → (r : Ran st x fs code mid n1 a1 S1 T1 G1) → Ran st (known_after x r.deeds r.after n1 a1) fs mid rest n a S2 T2 G2 → Ran st x fs code rest n a S T G2
+  pub ran_on : (x : Known) (fs : List Frame) (code mid rest : Code) (n1 : Count) (a1 : ℕ) (n : Count) (a : ℕ) → Apart S1 T1 S2 T2 S T → (r : Ran st x fs code mid n1 a1 S1 T1 G1) → Ran st (known_after x r.deeds r.after n1 a1) fs mid rest n a S2 T2 G2 → Ran st x fs code rest n a S T G2
   ran_on x fs code mid rest n1 a1 n a p r r2 =
       let y = known_after x r.deeds r.after n1 a1 in
       let e = sym (written-append r.deeds r2.deeds x.memory) in

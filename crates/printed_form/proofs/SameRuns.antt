@@ -2,23 +2,25 @@
 use Rattle.std.proofs.Common.{◌≡◌, ℕ, suc, ◌+◌, ◌*◌, ◌<◌, ◌^◌, Bool, true, false, List, [], ◌∷◌, ◌++◌, Option, Some, None, refl, sym, ap, ◌∙◌, subst, ⊎_elim, arith}
 use Rattle.std.specs.Prelude.{if◌then◌else◌, nat_lt, ◌==◌, ◌&&◌, slice_index}
 use Rattle.std.proofs.lemmas.Bool.{ltb-true}
+use Rattle.std.proofs.Math.Path.{fun_ext}
 use Rattle.kernel_tree.specs.declared.events.Event.{Event}
 use Rattle.kernel_tree.specs.declared.events.Event.TheVariants.{Step, Release}
 use Rattle.kernel_tree.specs.declared.events.FaultKind.{FaultKind}
 use Rattle.kernel_tree.specs.declared.events.FaultKind.TheVariants.{LoopWrap, OutOfRange}
-use Rattle.kernel_tree.specs.Formula.{Vars, set_word, value, bound_value}
-use Rattle.kernel_tree.specs.Code.{Array, Input, Output, Local, Private, Start, Statement, Assigns, Loads, Stores, Syncs, Code, End, Performs, Loops, Guards, Kernel, start_value, stride_value, then_rest}
+use Rattle.kernel_tree.specs.Formula.{Vars, set_word, set_vector, value, lanes_value, bound_value}
+use Rattle.kernel_tree.specs.Code.{Array, Input, Output, Local, Private, Start, Statement, Assigns, Loads, Stores, AssignsFour, LoadsFour, StoresFour, Syncs, Code, End, Performs, Loops, Guards, Kernel, start_value, stride_value, then_rest}
 use Rattle.kernel_tree.specs.Launch.{Launch, Cells, IsWhole, item_count, ids_of, group_of, first_item}
 use Rattle.kernel_tree.specs.Item.{Frame, Item, item, loop_variables, Wants, Ends, Waits, Moves, Reads, Writes, ReadsFour, WritesFour, Fails, with_value, tested, next_turn, perform, next_at, next}
-use Rattle.kernel_tree.specs.Device.{Device, State, Memory, Fence, device_of, length_in, cell_at, fence_of, wants, CanStep, StandTogether, Enabled, moves, taken, stored, memory_after, has_flag, releases, after, run, IsRun}
-use Rattle.kernel_tree.specs.Faults.{Access, Among, IsRace, accessed, accesses_of, accesses, failure, failure_of}
-use Rattle.kernel_tree.specs.Deeds.{Got, Gave}
+use Rattle.kernel_tree.specs.Device.{Device, State, Memory, Fence, device_of, length_in, cell_at, four_at, four_words, fence_of, wants, CanStep, StandTogether, Enabled, moves, taken, stored, memory_after, has_flag, releases, after, run, IsRun}
+use Rattle.kernel_tree.specs.Faults.{Access, Among, IsRace, access_four, accessed, accesses_of, accesses, failure, failure_of}
+use Rattle.kernel_tree.specs.Deeds.{Got, Gave, GotFour, GaveFour}
 use Rattle.kernel_tree.specs.Histories.{Did, Past, act_of, acts_of, history}
 use Rattle.kernel_tree.specs.EveryRun.{Completes}
 use Rattle.kernel_tree.specs.Meets.{IsWaiting, MeetTogether}
 use Rattle.kernel_tree.proofs.Grouping.{first_of_group, first_in_launch, in_launch}
 use Rattle.lift_ir.specs.Types.{Ty}
 use Rattle.lift_ir.specs.Terms.{Global, GlobalRows, Term, Reshape, LetArray, Map}
+use Rattle.printed_form.specs.Counts.{Count, no_variables}
 use Rattle.printed_form.specs.Marks.{Marks}
 use Rattle.printed_form.specs.Form.{IsWritten}
 use Rattle.printed_form.specs.Whole.{no_marks, output_marks, IsOverLaunch, IsCode}
@@ -43,10 +45,10 @@ module _ (grouped : Bool) (l : Launch) (k : ℕ) where
   same_loops (f ∷ fs) [] a = absurd a
   same_loops (f ∷ fs) (h ∷ hs) a = ap (λ v. loop_variables fs ++ v ∷ []) a.1 ∙ ap (λ vs. vs ++ h.variable ∷ []) (same_loops fs hs a.8)
 
-  with_value_alike : (o p : Option ℕ) (g h : ℕ → Wants) → o ≡ p → ((x : ℕ) → AlikeWants grouped l k (g x) (h x)) → AlikeWants grouped l k (with_value o g) (with_value p h)
-  with_value_alike o p g h e r = subst (λ q. AlikeWants grouped l k (with_value o g) (with_value q h)) e (go o)
+  with_value_alike : {V : Type 0} (o p : Option V) (g h : V → Wants) → o ≡ p → ((x : V) → AlikeWants grouped l k (g x) (h x)) → AlikeWants grouped l k (with_value o g) (with_value p h)
+  with_value_alike {V = V} o p g h e r = subst (λ q. AlikeWants grouped l k (with_value o g) (with_value q h)) e (go o)
     where
-      go : (o : Option ℕ) → AlikeWants grouped l k (with_value o g) (with_value o h)
+      go : (o : Option V) → AlikeWants grouped l k (with_value o g) (with_value o h)
       go None = refl
       go (Some x) = r x
 
@@ -113,6 +115,15 @@ module _ (grouped : Bool) (l : Launch) (k : ℕ) where
   perform_alike ts (Stores p i e) (Stores p2 j f) vars on go a h =
       with_value_alike _ _ _ _ (a.1 vars)
       (λ n. with_value_alike _ _ _ _ (ap (value (ids_of l k) ts vars) a.2) (λ x. (a.0, refl, refl, h vars)))
+  perform_alike ts (AssignsFour v e) (AssignsFour u f) vars on go a h =
+      with_value_alike _ _ _ _ (ap (lanes_value (ids_of l k) ts vars) a.1)
+      (λ x. subst (λ z. AlikeItems grouped l k (on (set_vector vars v x)) (go (set_vector vars z x))) a.0 (h (set_vector vars v x)))
+  perform_alike ts (LoadsFour v p i) (LoadsFour u p2 j) vars on go a h =
+      with_value_alike _ _ _ _ (a.2 vars)
+      (λ n. (a.1, refl, λ x. subst (λ z. AlikeItems grouped l k (on (set_vector vars v x)) (go (set_vector vars z x))) a.0 (h (set_vector vars v x))))
+  perform_alike ts (StoresFour p i e) (StoresFour p2 j f) vars on go a h =
+      with_value_alike _ _ _ _ (a.1 vars)
+      (λ n. with_value_alike _ _ _ _ (ap (lanes_value (ids_of l k) ts vars) a.2) (λ x. (a.0, refl, refl, h vars)))
   perform_alike ts (Syncs b c) (Syncs d e) vars on go a h = (a.0, a.1, a.2, h vars)
   perform_alike ts _ _ vars on go a h = absurd a
 
@@ -156,6 +167,8 @@ module _ (grouped : Bool) (l : Launch) (k : ℕ) where
   can_alike (Moves x) (Moves y) a c = tt
   can_alike (Reads b n f) (Reads e m g) a c = tt
   can_alike (Writes b n x y) (Writes e m z u) a c = tt
+  can_alike (ReadsFour b n f) (ReadsFour e m g) a c = tt
+  can_alike (WritesFour b n x y) (WritesFour e m z u) a c = tt
   can_alike (Fails f) (Fails g) a c = tt
   can_alike _ _ a c = absurd a
 
@@ -178,6 +191,9 @@ module _ (grouped : Bool) (l : Launch) (k : ℕ) where
   taken_alike (Reads b n f) (Reads e i g) m x y a h =
       subst (λ z. AlikeItems grouped l k (f (m (cell_at l k b n))) (g (m z))) (ap (λ c. cell_at l k c n) a.0 ∙ ap (cell_at l k e) a.1) (a.2 (m (cell_at l k b n)))
   taken_alike (Writes b n x2 y2) (Writes e i z u) m x y a h = a.3
+  taken_alike (ReadsFour b n f) (ReadsFour e i g) m x y a h =
+      subst (λ z. AlikeItems grouped l k (f (four_words m (four_at l k b n))) (g (four_words m z))) (ap (λ c. four_at l k c n) a.0 ∙ ap (four_at l k e) a.1) (a.2 (four_words m (four_at l k b n)))
+  taken_alike (WritesFour b n x2 y2) (WritesFour e i z u) m x y a h = a.3
   taken_alike (Fails f) (Fails g) m x y a h = h
   taken_alike _ _ m x y a h = absurd a
 
@@ -187,6 +203,8 @@ module _ (grouped : Bool) (l : Launch) (k : ℕ) where
   stored_alike (Moves x) (Moves y) m a = refl
   stored_alike (Reads b n f) (Reads e i g) m a = refl
   stored_alike (Writes b n x y) (Writes e i z u) m a = ap (λ c. stored l k (Writes c n x y) m) a.0 ∙ ap (λ j. stored l k (Writes e j x y) m) a.1 ∙ ap (λ q. stored l k (Writes e i q y) m) a.2
+  stored_alike (ReadsFour b n f) (ReadsFour e i g) m a = refl
+  stored_alike (WritesFour b n x y) (WritesFour e i z u) m a = ap (λ c. stored l k (WritesFour c n x y) m) a.0 ∙ ap (λ j. stored l k (WritesFour e j x y) m) a.1 ∙ ap (λ q. stored l k (WritesFour e i q y) m) a.2
   stored_alike (Fails f) (Fails g) m a = refl
   stored_alike _ _ m a = absurd a
 
@@ -196,6 +214,8 @@ module _ (grouped : Bool) (l : Launch) (k : ℕ) where
   flags_alike (Moves x) (Moves y) f a = refl
   flags_alike (Reads b n g) (Reads e i h) f a = refl
   flags_alike (Writes b n x y) (Writes e i z u) f a = refl
+  flags_alike (ReadsFour b n g) (ReadsFour e i h) f a = refl
+  flags_alike (WritesFour b n x y) (WritesFour e i z u) f a = refl
   flags_alike (Fails p) (Fails q) f a = refl
   flags_alike _ _ f a = absurd a
 
@@ -210,6 +230,8 @@ module _ (grouped : Bool) (l : Launch) (k : ℕ) where
   access_alike (Writes b n x y) (Writes c i z u) p q a e =
       let at = λ (z : Array) (j x : ℕ). let r : Access = record { item = k; group = group_of l k; cell = cell_at l k z j; writes = true; epoch = x } in r ∷ [] in
       ap (at b n) (e (fence_of (cell_at l k b n))) ∙ ap (λ z. at z n (q (fence_of (cell_at l k z n)))) a.0 ∙ ap (λ j. at c j (q (fence_of (cell_at l k c j)))) a.1
+  access_alike (ReadsFour b n f) (ReadsFour c i g) p q a e = ap (access_four (group_of l k) k (four_at l k b n) false) (fun_ext e) ∙ ap (λ z. access_four (group_of l k) k (four_at l k z n) false q) a.0 ∙ ap (λ j. access_four (group_of l k) k (four_at l k c j) false q) a.1
+  access_alike (WritesFour b n x y) (WritesFour c i z u) p q a e = ap (access_four (group_of l k) k (four_at l k b n) true) (fun_ext e) ∙ ap (λ z. access_four (group_of l k) k (four_at l k z n) true q) a.0 ∙ ap (λ j. access_four (group_of l k) k (four_at l k c j) true q) a.1
   access_alike _ _ p q a e = absurd a
 
   act_alike : (w v : Wants) → AlikeWants grouped l k w v → act_of l k w ≡ act_of l k v
@@ -219,6 +241,8 @@ module _ (grouped : Bool) (l : Launch) (k : ℕ) where
   act_alike (Fails f) (Fails g) a = refl
   act_alike (Reads b n f) (Reads c i g) a = ap (λ z. Did (Got (cell_at l k z n))) a.0 ∙ ap (λ j. Did (Got (cell_at l k c j))) a.1
   act_alike (Writes b n x y) (Writes c i z u) a = ap (λ q. Did (Gave (cell_at l k q n) x)) a.0 ∙ ap (λ j. Did (Gave (cell_at l k c j) x)) a.1 ∙ ap (λ q. Did (Gave (cell_at l k c i) q)) a.2
+  act_alike (ReadsFour b n f) (ReadsFour c i g) a = ap (λ z. Did (GotFour (four_at l k z n))) a.0 ∙ ap (λ j. Did (GotFour (four_at l k c j))) a.1
+  act_alike (WritesFour b n x y) (WritesFour c i z u) a = ap (λ q. Did (GaveFour (four_at l k q n) x)) a.0 ∙ ap (λ j. Did (GaveFour (four_at l k c j) x)) a.1 ∙ ap (λ q. Did (GaveFour (four_at l k c i) q)) a.2
   act_alike _ _ a = absurd a
 
   ends_alike : (w v : Wants) → AlikeWants grouped l k w v → w ≡ Ends → v ≡ Ends
@@ -247,6 +271,8 @@ module _ (grouped : Bool) (d : Device) (lengths : Array → ℕ) (same : (a : Ar
   failure_alike k (Moves x) (Moves y) a = refl
   failure_alike k (Reads b n f) (Reads c i g) a = ap (λ z. if nat_lt n z then None else Some OutOfRange) (same b ∙ ap lengths a.0) ∙ ap (λ j. if nat_lt j (lengths c) then None else Some OutOfRange) a.1
   failure_alike k (Writes b n x y) (Writes c i z u) a = ap (λ z. if nat_lt n z then None else Some OutOfRange) (same b ∙ ap lengths a.0) ∙ ap (λ j. if nat_lt j (lengths c) then None else Some OutOfRange) a.1
+  failure_alike k (ReadsFour b n f) (ReadsFour c i g) a = ap (λ z. if nat_lt (4 * n + 3) z then None else Some OutOfRange) (same b ∙ ap lengths a.0) ∙ ap (λ j. if nat_lt (4 * j + 3) (lengths c) then None else Some OutOfRange) a.1
+  failure_alike k (WritesFour b n x y) (WritesFour c i z u) a = ap (λ z. if nat_lt (4 * n + 3) z then None else Some OutOfRange) (same b ∙ ap lengths a.0) ∙ ap (λ j. if nat_lt (4 * j + 3) (lengths c) then None else Some OutOfRange) a.1
   failure_alike k (Fails f) (Fails g) a = ap (λ h. Some h) a
   failure_alike k _ _ a = absurd a
 
@@ -349,22 +375,22 @@ same_lengths k m c locals privates (Private n) = ap (λ ns. slice_index ns n) pr
 
 -- the codes of one term
 
-never_both : {A : Type 0} (num : A → ℕ) (l : Launch) (item : ℕ) (ins : ℕ → Marks) (t : Term A) (ts : List ℕ) (env env2 : ℕ → Marks) (p n p2 n2 : ℕ) (w w2 : Marks) (a b c e : Code) → IsWritten l item ins num ts env p n t w a b → IsOverLaunch l item ins num env2 p2 n2 t w2 c e → ⊥
-never_both num l item ins (Reshape y t) ts env env2 p n p2 n2 w w2 a b c e x z = never_both num l item ins t ts env env2 p n p2 n2 _ _ a b c e x.1 z.1
-never_both num l item ins (LetArray v t) ts env env2 p n p2 n2 w w2 a b c e x z = never_both num l item ins t ts _ _ _ _ _ _ w w2 x.0 b z.0 e x.2 z.2
-never_both num l item ins (Map Global len loads xs t) ts env env2 p n p2 n2 w w2 a b c e x z = x
-never_both num l item ins (Map GlobalRows len loads xs t) ts env env2 p n p2 n2 w w2 a b c e x z = x
-never_both num l item ins _ ts env env2 p n p2 n2 w w2 a b c e x z = z
+never_both : {A : Type 0} (num : A → ℕ) (l : Launch) (item : ℕ) (ins : ℕ → Marks) (t : Term A) (ts : List ℕ) (env env2 : ℕ → Marks) (p p2 : ℕ) (n n2 : Count) (w w2 : Marks) (a b c e : Code) → IsWritten l item ins num ts env p n t w a b → IsOverLaunch l item ins num env2 p2 n2 t w2 c e → ⊥
+never_both num l item ins (Reshape y t) ts env env2 p p2 n n2 w w2 a b c e x z = never_both num l item ins t ts env env2 p p2 n n2 _ _ a b c e x.1 z.1
+never_both num l item ins (LetArray v t) ts env env2 p p2 n n2 w w2 a b c e x z = never_both num l item ins t ts _ _ _ _ _ _ w w2 x.0 b z.0 e x.2 z.2
+never_both num l item ins (Map Global len loads xs t) ts env env2 p p2 n n2 w w2 a b c e x z = x
+never_both num l item ins (Map GlobalRows len loads xs t) ts env env2 p p2 n n2 w w2 a b c e x z = x
+never_both num l item ins _ ts env env2 p p2 n n2 w w2 a b c e x z = z
 
 pub codes_alike : {A : Type 0} (num : A → ℕ) (l : Launch) (ins : ℕ → Marks) (t : Term A) (ty : Ty) (a b : Code) → IsCode l ins num t ty a → IsCode l ins num t ty b → (item : ℕ) → item < item_count l → Alike false l item [] a b
 codes_alike num l ins t ty a b x y item lt =
     ⊎_elim
     (λ p. ⊎_elim
-    (λ q. subst (λ i. Alike false l i [] a b) (let e = p.0 in let z : 0 ≡ item = omega arith in z) (alike_written false l 0 ins num t [] no_marks 0 0 (output_marks ty) a b End End p.1 q.1 tt))
-    (λ q. absurd (never_both num l 0 ins t [] no_marks no_marks 0 0 0 0 (output_marks ty) (output_marks ty) a End b End p.1 (q 0 (let e = p.0 in omega arith)))) y)
+    (λ q. subst (λ i. Alike false l i [] a b) (let e = p.0 in let z : 0 ≡ item = omega arith in z) (alike_written false l 0 ins num t [] no_marks 0 no_variables (output_marks ty) a b End End p.1 q.1 tt))
+    (λ q. absurd (never_both num l 0 ins t [] no_marks no_marks 0 0 no_variables no_variables (output_marks ty) (output_marks ty) a End b End p.1 (q 0 (let e = p.0 in omega arith)))) y)
     (λ p. ⊎_elim
-    (λ q. absurd (never_both num l 0 ins t [] no_marks no_marks 0 0 0 0 (output_marks ty) (output_marks ty) b End a End q.1 (p 0 (let e = q.0 in omega arith))))
-    (λ q. alike_over_launch false l item ins num t no_marks 0 0 (output_marks ty) a b End End (p item lt) (q item lt) tt) y)
+    (λ q. absurd (never_both num l 0 ins t [] no_marks no_marks 0 0 no_variables no_variables (output_marks ty) (output_marks ty) b End a End q.1 (p 0 (let e = q.0 in omega arith))))
+    (λ q. alike_over_launch false l item ins num t no_marks 0 no_variables (output_marks ty) a b End End (p item lt) (q item lt) tt) y)
     x
 
 pub printed_kernels_are_alike : (A : Type 0) → PrintedKernelsAreAlike A

@@ -23,15 +23,15 @@ use Rattle.lift_ir.specs.Types.{Ty, ArrayOf, IsPosition, width, size, component,
 use Rattle.lift_ir.specs.Terms.{LoadSet, LoadsScalars, Global, GlobalRows, Term, LetArray, Reshape, Map, push, HasType, no_type}
 use Rattle.lift_ir.specs.Layouts.{Layout, operand_position, Reshapes, result_position, IsInvertible}
 use Rattle.lift_ir.specs.Scalars.{Scalars, at_index, mapped, scalars_of, no_scalars, AreLists}
-use Rattle.printed_form.specs.Marks.{Mark, Nowhere, Register, Spot, Marks, loaded_marks}
-use Rattle.printed_form.specs.Counts.{variable_count, private_count, load_count}
+use Rattle.printed_form.specs.Marks.{Mark, Nowhere, Register, Lane, Spot, Marks, loaded_marks}
+use Rattle.printed_form.specs.Counts.{Count, AtMost, more, no_variables, variable_count, private_count, load_count}
 use Rattle.printed_form.specs.Form.{argument_marks, IsLoop, IsLoaded, IsWritten, Declares}
-use Rattle.printed_form.specs.Runs.{Setting, Known, Scratch, spot_cell, mark_cell, HoldsAt, Holds, AllHold, DueAt, Due, Wrote, known_after, Ran, Apart}
+use Rattle.printed_form.specs.Runs.{Setting, Known, Fits, Scratch, spot_cell, mark_cell, HoldsAt, Holds, AllHold, DueAt, Due, Wrote, known_after, Ran, Apart}
 use Rattle.lift_ir.specs.Owner.{column_owner, row_owner, owner, is_in_rows}
 use Rattle.printed_form.specs.Whole.{IsAlongRow, IsOverLaunch, no_marks, output_marks, IsGiven, IsPrinted}
 use Rattle.lift_ir.proofs.Positions.{operand_in, result_in, result_operand}
 use Rattle.printed_form.proofs.Cells.{loads_run}
-use Rattle.printed_form.proofs.Runs.{later_on, holds_later, all_hold_later, ran_on, after_silence}
+use Rattle.printed_form.proofs.Runs.{at_most, many_more, more_more, fewer, fits_later, fewer_later, later_on, holds_later, all_hold_later, ran_on, after_silence}
 use Rattle.printed_form.proofs.Elements.{all_hold_push}
 use Rattle.printed_form.proofs.Loops.{at, TurnRuns, looped, Rows, due_unscratched, rest_is}
 use Rattle.lift_ir.proofs.Numbers.{component_below, flat_below, component_same, flat_same, unflat_flat, position_at}
@@ -68,13 +68,13 @@ module _ {A : Type 0} (num : A → ℕ) (ins : ℕ → Marks) (src : ℕ → Ty)
   few_across : across < 2 ^ 31
   few_across =
       let some : 0 < down = (let z = line_in in omega arith) in
-      let more : 1 * across ≤ down * across = mul-le-mul_right across (let le : 1 ≤ down = omega arith in le) in
+      let wide : 1 * across ≤ down * across = mul-le-mul_right across (let le : 1 ≤ down = omega arith in le) in
       omega arith
 
   few_down : down < 2 ^ 31
   few_down =
       let some : 0 < across = (let z = column_in in omega arith) in
-      let more : 1 * down ≤ across * down = mul-le-mul_right down (let le : 1 ≤ across = omega arith in le) in
+      let wide : 1 * down ≤ across * down = mul-le-mul_right down (let le : 1 ≤ across = omega arith in le) in
       omega arith
 
   -- those of a value's scalars of whose positions this holds
@@ -88,7 +88,7 @@ module _ {A : Type 0} (num : A → ℕ) (ins : ℕ → Marks) (src : ℕ → Ty)
     places : (cs ds : List Bool) (q p : List ℕ) → IsPosition ty cs q → IsPosition ty ds p → mark_cell st (w cs q) ≡ mark_cell st (w ds p) → q ≡ p
 
   abbrev FillsPart : (P : List ℕ → Type 0) → (x : Known) → List Frame → (code rest : Code) → Term A → (ty : Ty) → Marks → Scalars → Type 0
-  FillsPart P x fs code rest t ty w s = Ran st x fs code rest (x.count + variable_count t) (x.arrays + private_count t) (Scratch x.arrays (x.arrays + private_count t)) (PartTargets P ty w s) (λ y. Unit {0})
+  FillsPart P x fs code rest t ty w s = Ran st x fs code rest (more x.count (variable_count t)) (x.arrays + private_count t) (Scratch x.arrays (x.arrays + private_count t)) (PartTargets P ty w s) (λ y. Unit {0})
 
   part_unscratched : (P : List ℕ → Type 0) (b a : ℕ) (ty : Ty) (w : Marks) (s : Scalars) → DuePart P a ty w → (c : Cell) (v : ℕ) → PartTargets P ty w s c v → Scratch b a c → ⊥
   part_unscratched P b a ty w s due c v z h = due_unscratched st (λ u. u) ty w s b a (w z.0 z.1) (due.at z.0 z.1 z.2 z.3) (subst (Scratch b a) z.4 h)
@@ -110,7 +110,7 @@ module _ {A : Type 0} (num : A → ℕ) (ins : ℕ → Marks) (src : ℕ → Ty)
   fills_back : (P : List ℕ → Type 0) (y : Layout A) (a : Term A) (u ty : Ty) (w : Marks) (D : Scalars) (x : Known) (fs : List Frame) (code rest : Code) → IsInvertible y → Reshapes num y u ty → FillsPart P x fs code rest a u (λ cs q. w cs (result_position num y q)) D
       → FillsPart (λ q. P (operand_position num y q)) x fs code rest (Reshape y a) ty w (λ cs q. D cs (operand_position num y q))
   fills_back P y a u ty w D x fs code rest turn rel r =
-      ran_as st x fs code rest (x.count + variable_count a) (x.arrays + private_count a) (x.count + variable_count a) (x.arrays + private_count a) (λ k. Unit {0}) (omega arith) (omega arith) (λ m vars z. z) (λ c s. s)
+      ran_as st x fs code rest (more x.count (variable_count a)) (x.arrays + private_count a) (more x.count (variable_count a)) (x.arrays + private_count a) (λ k. Unit {0}) (many_more x.count (variable_count a)) (omega arith) (λ m vars z. z) (λ c s. s)
       (λ c v t. let b = result_in num y u ty t.0 t.1 turn rel t.2 in inl (t.0, result_position num y t.1, b.0, subst P (sym b.1) t.3, t.4, t.5 ∙ ap (D t.0) (sym b.1)))
       (λ c v t. (t.0, operand_position num y t.1, operand_in num y u ty t.0 t.1 rel t.2, t.3, t.4 ∙ ap (λ q. mark_cell st (w t.0 q)) (sym (result_operand num y u ty t.0 t.1 turn rel t.2)), t.5)) r
 
@@ -171,7 +171,7 @@ module _ {A : Type 0} (num : A → ℕ) (ins : ℕ → Marks) (src : ℕ → Ty)
 
   -- a map along a row fills the scalars of the item's column
   along : (t : Term A) (ts : List ℕ) (fs : List Frame) → loop_variables fs ≡ ts → (gt : ℕ → Ty) (env : ℕ → Marks) (sems : ℕ → Scalars) (ty : Ty) (w : Marks) (x : Known) (code rest : Code) → HasType num src gt t ty → IsAlongRow l st.item ins num ts env x.arrays x.count t w code rest
-      → x.count + variable_count t ≤ length x.vars.words → Declares st.device.lengths x.arrays t → DuePart (InColumn t) (x.arrays + private_count t) ty w → AllHold st x gt env sems → AllHold st x src ins sources → FillsPart (InColumn t) x fs code rest t ty w (scalars_of num sources sems t)
+      → Fits (more x.count (variable_count t)) x.vars → Declares st.device.lengths x.arrays t → DuePart (InColumn t) (x.arrays + private_count t) ty w → AllHold st x gt env sems → AllHold st x src ins sources → FillsPart (InColumn t) x fs code rest t ty w (scalars_of num sources sems t)
   along (Reshape y a) ts fs at_ts gt env sems ty w x code rest ok h room long due es gs =
       let r = along a ts fs at_ts gt env sems ok.0 (λ cs q. w cs (result_position num y q)) x code rest ok.1 h.1 room long (part_back (InColumn a) y ok.0 ty w (x.arrays + private_count a) h.0 ok.2 due) es gs in
       fills_back (InColumn a) y a ok.0 ty w (scalars_of num sources sems a) x fs code rest h.0 ok.2 r
@@ -179,19 +179,19 @@ module _ {A : Type 0} (num : A → ℕ) (ins : ℕ → Marks) (src : ℕ → Ty)
       let len = num n in
       let xt = ok.0 in
       let yt = ok.1 in
-      let r = gathers st num ins src sources own xs ts fs at_ts gt env sems (ArrayOf len xt) x code h.0 ok.4 h.1 (omega arith) long.0 es gs in
-      let n1 = x.count + variable_count xs in
+      let r = gathers st num ins src sources own xs ts fs at_ts gt env sems (ArrayOf len xt) x code h.0 ok.4 h.1 (fewer room (omega arith) (omega arith)) long.0 es gs in
+      let n1 = more x.count (variable_count xs) in
       let a1 = x.arrays + private_count xs in
       let y = known_after x r.deeds r.after n1 a1 in
       let e = argument_marks l ins num env x.arrays xs in
       let D = scalars_of num sources sems xs in
       let s = mapped (λ z. scalars_of num sources (push z sems) b) D in
       let count = turns_of len across column in
-      let room2 : x.count + variable_count xs + load_count loads + variable_count b ≤ length r.after.words = subst (λ q. x.count + variable_count xs + load_count loads + variable_count b ≤ q) (sym r.later.kept.long) (omega arith) in
+      let room2 : Fits (more (more (more x.count (variable_count xs)) (load_count loads)) (variable_count b)) r.after = fewer_later room r.later.kept (omega arith) (omega arith) in
       let M = Map Global n loads xs b in
       let due1 : DuePart (InColumn M) (x.arrays + (private_count xs + private_count b)) (ArrayOf len yt) w = subst (λ t. DuePart (InColumn M) (x.arrays + (private_count xs + private_count b)) t w) ok.6 due in
       let a2 = a1 + private_count b in
-      let n2 = x.count + (variable_count xs + (load_count loads + variable_count b)) in
+      let n2 = more x.count (more (variable_count xs) (more (load_count loads) (variable_count b))) in
       let due2 = part_at (InColumn M) (x.arrays + (private_count xs + private_count b)) a2 (ArrayOf len yt) w (omega arith) due1 in
       let es2 = all_hold_later st x y gt env sems r.later es in
       let gs2 = all_hold_later st x y src ins sources r.later gs in
@@ -200,8 +200,8 @@ module _ {A : Type 0} (num : A → ℕ) (ins : ℕ → Marks) (src : ℕ → Ty)
       let r2 = map_run st num ins src sources own Global own_place count len loads b ts fs gt env sems xt yt e w D y h.0 rest n2 a2 at_ts (λ f body q. glb_counts len f body rest ok.2 q) (λ f body t. refl) (λ t lt. turn_below len across column t column_in lt) (λ t u q. strides_differ column across t u some q) ok.3 due2.places
       (λ t lt. due_place a2 n (own_place t) loads xs b yt w (turn_below len across column t column_in lt) (turn_owner across column t column_in) due2) h.2 room2 r.good es2 gs2
       (λ i lt m vars fs2 inner at2 h2 room3 due3 es3 gs3. writes st num ins src sources own b (ts ++ i ∷ []) fs2 at2 (push xt gt) (push (loaded_marks loads (at_index i e) n1) env) (push (at_index i D) sems) yt (at_index i w) (in_turn st num ins src sources own y loads m vars) inner End ok.5 h2 room3 long.1 due3 es3 gs3)
-      (omega arith) (omega arith) in
-      let r3 = ran_as st y fs h.0 rest n2 a2 n2 a2 (λ k. Unit {0}) (omega arith) (omega arith) (λ m vars z. z) (λ c q. q)
+      (at_most (omega arith) (omega arith)) (omega arith) in
+      let r3 = ran_as st y fs h.0 rest n2 a2 n2 a2 (λ k. Unit {0}) (at_most (omega arith) (omega arith)) (omega arith) (λ m vars z. z) (λ c q. q)
       (λ c v q. inl (of_places n loads xs b yt w s c v q)) (λ c v q. places_of n loads xs b yt w s c v q) r2 in
       let r4 = ran_on st x fs code h.0 rest n1 a1 n2 a2 (scratch_then st x.arrays a1 a2 T (omega arith) (omega arith) (part_unscratched (InColumn M) x.arrays a2 (ArrayOf len yt) w s due2)) r r3 in
       subst (λ t. Ran st x fs code rest n2 (x.arrays + (private_count xs + private_count b)) (Scratch x.arrays (x.arrays + (private_count xs + private_count b))) (PartTargets (InColumn M) t w s) (λ k. Unit {0})) (sym ok.6)
@@ -215,7 +215,7 @@ module _ {A : Type 0} (num : A → ℕ) (ins : ℕ → Marks) (src : ℕ → Ty)
   -- rows of the launch, each filled along
 
   module _ (n : A) (loads : LoadSet) (xs b : Term A) (gt : ℕ → Ty) (env : ℕ → Marks) (sems : ℕ → Scalars) (xt yt : Ty) (e w : Marks) (D : Scalars) (x : Known) (rest : Code) (small : num n < 2 ^ 31) (suits : LoadsScalars loads xt) (typed : HasType num src (push xt gt) b yt) (long : Declares st.device.lengths x.arrays b)
-      (due : DuePart (Own (Map GlobalRows n loads xs b)) (x.arrays + private_count b) (ArrayOf (num n) yt) w) (room : x.count + load_count loads + variable_count b ≤ length x.vars.words) (holds : Holds st x (ArrayOf (num n) xt) e D) (es : AllHold st x gt env sems) (gs : AllHold st x src ins sources) where
+      (due : DuePart (Own (Map GlobalRows n loads xs b)) (x.arrays + private_count b) (ArrayOf (num n) yt) w) (room : Fits (more (more x.count (load_count loads)) (variable_count b)) x.vars) (holds : Holds st x (ArrayOf (num n) xt) e D) (es : AllHold st x gt env sems) (gs : AllHold st x src ins sources) where
     abbrev row_values : Scalars
     row_values = mapped (λ z. scalars_of num sources (push z sems) b) D
 
@@ -280,15 +280,15 @@ module _ {A : Type 0} (num : A → ℕ) (ins : ℕ → Marks) (src : ℕ → Ty)
       places = λ cs ds q p k j r. rest_is (own_line t) (own_line t) q p (due.places cs ds (own_line t ∷ q) (own_line t ∷ p) (line_below t lt, k) (line_below t lt, j) r);
     }
 
-    lines_run : (n2 a2 : ℕ) → x.count ≤ n2 → x.arrays ≤ a2 → (code : Code)
+    lines_run : (n2 : Count) (a2 : ℕ) → AtMost x.count n2 → x.arrays ≤ a2 → (code : Code)
         → IsLoop l st.item ins GlobalRows (num n)
         (λ i body. (inner : Code) × IsLoaded l st.item ins ([] ++ i ∷ []) loads (at_index i e) x.count body inner
-        × IsAlongRow l st.item ins num ([] ++ i ∷ []) (push (loaded_marks loads (at_index i e) x.count) env) x.arrays (x.count + load_count loads) b (at_index i w) inner End)
+        × IsAlongRow l st.item ins num ([] ++ i ∷ []) (push (loaded_marks loads (at_index i e) x.count) env) x.arrays (more x.count (load_count loads)) b (at_index i w) inner End)
         code rest
         → Ran st x [] code rest n2 a2 (Scratch x.arrays last) (Lines count) (λ y. Unit {0})
     lines_run n2 a2 le le2 code h =
         subst (λ c. Ran st x [] c rest n2 a2 (Scratch x.arrays last) (Lines count) (λ y. Unit {0})) (sym h.2)
-        (looped st [] p count counted x (Scratch x.arrays last) Lines Line (λ t m vars. Unit {0}) no_lines lines_apart (x.count + load_count loads + variable_count b) last tt turn n2 a2 le le2)
+        (looped st [] p count counted x (Scratch x.arrays last) Lines Line (λ t m vars. Unit {0}) no_lines lines_apart (more (more x.count (load_count loads)) (variable_count b)) last tt turn n2 a2 le le2)
       where
         p : Loop
         p = loop_of st num ins src sources own GlobalRows h.0 h.1 rest
@@ -296,7 +296,7 @@ module _ {A : Type 0} (num : A → ℕ) (ins : ℕ → Marks) (src : ℕ → Ty)
         counted : Counts st.device st.item (loop_of st num ins src sources own GlobalRows h.0 h.1 rest) count
         counted = rows_counts (num n) h.0 h.1 rest small h.3
 
-        turn : TurnRuns st [] (loop_of st num ins src sources own GlobalRows h.0 h.1 rest) count (rows_counts (num n) h.0 h.1 rest small h.3) x (Scratch x.arrays last) Lines Line (λ t m vars. Unit {0}) no_lines lines_apart (x.count + load_count loads + variable_count b) last
+        turn : TurnRuns st [] (loop_of st num ins src sources own GlobalRows h.0 h.1 rest) count (rows_counts (num n) h.0 h.1 rest small h.3) x (Scratch x.arrays last) Lines Line (λ t m vars. Unit {0}) no_lines lines_apart (more (more x.count (load_count loads)) (variable_count b)) last
         turn t lt m vars later inv =
             let i = own_line t in
             let lt2 : i < num n = line_below t lt in
@@ -304,14 +304,14 @@ module _ {A : Type 0} (num : A → ℕ) (ins : ℕ → Marks) (src : ℕ → Ty)
             let fs2 = frame_of st.device st.item (loop_of st num ins src sources own GlobalRows h.0 h.1 rest) t ∷ [] in
             let k = h.4 i lt2 (t, refl) in
             let el : Holds st z xt (at_index i e) (at_index i D) = λ cs q a. holds_later st x z (ArrayOf (num n) xt) e D later holds cs (i ∷ q) (lt2, a) in
-            let long1 = subst (λ q. x.count + load_count loads + variable_count b ≤ q) (sym later.kept.long) room in
-            let r = loads_run st ([] ++ i ∷ []) fs2 refl ins loads xt (at_index i e) (at_index i D) z h.1 k.0 suits k.1 (omega arith) el in
-            let z2 = known_after z r.deeds r.after (x.count + load_count loads) x.arrays in
+            let long1 = fits_later room later.kept in
+            let r = loads_run st ([] ++ i ∷ []) fs2 refl ins loads xt (at_index i e) (at_index i D) z h.1 k.0 suits k.1 (fewer long1 (omega arith) (omega arith)) el in
+            let z2 = known_after z r.deeds r.after (more x.count (load_count loads)) x.arrays in
             let later2 = later_on st x z z2 later r.later in
-            let long2 = subst (λ q. x.count + load_count loads + variable_count b ≤ q) (sym r.later.kept.long) long1 in
+            let long2 = fits_later long1 r.later.kept in
             let es2 = all_hold_push st z2 xt (loaded_marks loads (at_index i e) x.count) (at_index i D) gt env sems r.good (all_hold_later st x z2 gt env sems later2 es) in
             let r2 = along b ([] ++ i ∷ []) fs2 refl (push xt gt) (push (loaded_marks loads (at_index i e) x.count) env) (push (at_index i D) sems) yt (at_index i w) z2 k.0 End typed k.2 long2 long (due_line t lt) es2 (all_hold_later st x z2 src ins sources later2 gs) in
-            ran_on st z fs2 h.1 k.0 End (x.count + load_count loads) x.arrays (x.count + load_count loads + variable_count b) last after_silence r r2
+            ran_on st z fs2 h.1 k.0 End (more x.count (load_count loads)) x.arrays (more (more x.count (load_count loads)) (variable_count b)) last after_silence r r2
 
     lines_own : (c : Cell) (v : ℕ) → Lines count c v → PartTargets (Own M) (ArrayOf (num n) yt) w row_values c v
     lines_own c v h = let z = h.2 in (z.0, own_line h.0 ∷ z.1, (line_below h.0 h.1, z.2), (z.3, line_mine h.0), z.4, z.5)
@@ -329,31 +329,31 @@ module _ {A : Type 0} (num : A → ℕ) (ins : ℕ → Marks) (src : ℕ → Ty)
 
   -- of a term whose launch is one row, or which has a map over rows on top
   tops : (t : Term A) (gt : ℕ → Ty) (env : ℕ → Marks) (sems : ℕ → Scalars) (ty : Ty) (w : Marks) (x : Known) (code rest : Code) → (is_in_rows t ≡ false → line ≡ 0) → HasType num src gt t ty → IsOverLaunch l st.item ins num env x.arrays x.count t w code rest
-      → x.count + variable_count t ≤ length x.vars.words → Declares st.device.lengths x.arrays t → DuePart (Own t) (x.arrays + private_count t) ty w → AllHold st x gt env sems → AllHold st x src ins sources → FillsPart (Own t) x [] code rest t ty w (scalars_of num sources sems t)
+      → Fits (more x.count (variable_count t)) x.vars → Declares st.device.lengths x.arrays t → DuePart (Own t) (x.arrays + private_count t) ty w → AllHold st x gt env sems → AllHold st x src ins sources → FillsPart (Own t) x [] code rest t ty w (scalars_of num sources sems t)
   tops (Reshape y a) gt env sems ty w x code rest first ok h room long due es gs =
       let r = tops a gt env sems ok.0 (λ cs q. w cs (result_position num y q)) x code rest first ok.1 h.1 room long (part_back (Own a) y ok.0 ty w (x.arrays + private_count a) h.0 ok.2 due) es gs in
       fills_back (Own a) y a ok.0 ty w (scalars_of num sources sems a) x [] code rest h.0 ok.2 r
   tops (LetArray v b) gt env sems ty w x code rest first ok h room long due es gs =
-      let r = gathers st num ins src sources own v [] [] refl gt env sems ok.0 x code h.0 ok.1 h.1 (omega arith) long.0 es gs in
-      let y = known_after x r.deeds r.after (x.count + variable_count v) (x.arrays + private_count v) in
-      let room2 : x.count + variable_count v + variable_count b ≤ length r.after.words = subst (λ q. x.count + variable_count v + variable_count b ≤ q) (sym r.later.kept.long) (omega arith) in
+      let r = gathers st num ins src sources own v [] [] refl gt env sems ok.0 x code h.0 ok.1 h.1 (fewer room (omega arith) (omega arith)) long.0 es gs in
+      let y = known_after x r.deeds r.after (more x.count (variable_count v)) (x.arrays + private_count v) in
+      let room2 : Fits (more (more x.count (variable_count v)) (variable_count b)) r.after = fewer_later room r.later.kept (omega arith) (omega arith) in
       let e = argument_marks l ins num env x.arrays v in
       let D = scalars_of num sources sems v in
       let a2 = x.arrays + private_count v + private_count b in
-      let n2 = x.count + variable_count v + variable_count b in
+      let n2 = more (more x.count (variable_count v)) (variable_count b) in
       let due2 = part_at (Own b) (x.arrays + (private_count v + private_count b)) a2 ty w (omega arith) (record { at = due.at; choices = due.choices; places = due.places }) in
       let es2 = all_hold_push st y ok.0 e D gt env sems r.good (all_hold_later st x y gt env sems r.later es) in
       let s = scalars_of num sources (push D sems) b in
       let T = PartTargets (Own b) ty w s in
       let r2 = tops b (push ok.0 gt) (push e env) (push D sems) ty w y h.0 rest first ok.2 h.2 room2 long.1 due2 es2 (all_hold_later st x y src ins sources r.later gs) in
-      ran_eq st x [] code rest n2 a2 (x.count + (variable_count v + variable_count b)) (x.arrays + (private_count v + private_count b)) x.arrays (omega arith) (omega arith)
-      (ran_on st x [] code h.0 rest (x.count + variable_count v) (x.arrays + private_count v) n2 a2 (scratch_then st x.arrays (x.arrays + private_count v) a2 T (omega arith) (omega arith) (part_unscratched (Own b) x.arrays a2 ty w s due2)) r r2)
+      ran_eq st x [] code rest n2 a2 (more x.count (more (variable_count v) (variable_count b))) (x.arrays + (private_count v + private_count b)) x.arrays (more_more x.count (variable_count v) (variable_count b)) (omega arith)
+      (ran_on st x [] code h.0 rest (more x.count (variable_count v)) (x.arrays + private_count v) n2 a2 (scratch_then st x.arrays (x.arrays + private_count v) a2 T (omega arith) (omega arith) (part_unscratched (Own b) x.arrays a2 ty w s due2)) r r2)
   tops (Map Global n loads xs b) gt env sems ty w x code rest first ok h room long due es gs =
       let M = Map Global n loads xs b in
       let zero_is : line ≡ 0 = first refl in
       let column_due : DuePart (InColumn M) (x.arrays + private_count M) ty w = record { at = λ cs q k o. due.at cs q k (o, none q ∙ sym zero_is); choices = due.choices; places = due.places } in
       let r = along M [] [] refl gt env sems ty w x code rest ok h room long column_due es gs in
-      ran_as st x [] code rest (x.count + variable_count M) (x.arrays + private_count M) (x.count + variable_count M) (x.arrays + private_count M) (λ k. Unit {0}) (omega arith) (omega arith) (λ m vars z. z) (λ c s. s)
+      ran_as st x [] code rest (more x.count (variable_count M)) (x.arrays + private_count M) (more x.count (variable_count M)) (x.arrays + private_count M) (λ k. Unit {0}) (many_more x.count (variable_count M)) (omega arith) (λ m vars z. z) (λ c s. s)
       (λ c v t. inl (t.0, t.1, t.2, (t.3, none t.1 ∙ sym zero_is), t.4, t.5)) (λ c v t. (t.0, t.1, t.2, t.3.0, t.4, t.5)) r
     where
       none : (q : List ℕ) → row_owner num l (Map Global n loads xs b) q ≡ 0
@@ -362,24 +362,24 @@ module _ {A : Type 0} (num : A → ℕ) (ins : ℕ → Marks) (src : ℕ → Ty)
       let len = num n in
       let xt = ok.0 in
       let yt = ok.1 in
-      let r = gathers st num ins src sources own xs [] [] refl gt env sems (ArrayOf len xt) x code h.0 ok.4 h.1 (omega arith) long.0 es gs in
-      let n1 = x.count + variable_count xs in
+      let r = gathers st num ins src sources own xs [] [] refl gt env sems (ArrayOf len xt) x code h.0 ok.4 h.1 (fewer room (omega arith) (omega arith)) long.0 es gs in
+      let n1 = more x.count (variable_count xs) in
       let a1 = x.arrays + private_count xs in
       let y = known_after x r.deeds r.after n1 a1 in
       let e = argument_marks l ins num env x.arrays xs in
       let D = scalars_of num sources sems xs in
       let s = mapped (λ z. scalars_of num sources (push z sems) b) D in
-      let room2 : x.count + variable_count xs + load_count loads + variable_count b ≤ length r.after.words = subst (λ q. x.count + variable_count xs + load_count loads + variable_count b ≤ q) (sym r.later.kept.long) (omega arith) in
+      let room2 : Fits (more (more (more x.count (variable_count xs)) (load_count loads)) (variable_count b)) r.after = fewer_later room r.later.kept (omega arith) (omega arith) in
       let M = Map GlobalRows n loads xs b in
       let due1 : DuePart (Own M) (x.arrays + (private_count xs + private_count b)) (ArrayOf len yt) w = subst (λ t. DuePart (Own M) (x.arrays + (private_count xs + private_count b)) t w) ok.6 due in
       let a2 = a1 + private_count b in
-      let n2 = x.count + (variable_count xs + (load_count loads + variable_count b)) in
+      let n2 = more x.count (more (variable_count xs) (more (load_count loads) (variable_count b))) in
       let due2 = part_at (Own M) (x.arrays + (private_count xs + private_count b)) a2 (ArrayOf len yt) w (omega arith) due1 in
       let es2 = all_hold_later st x y gt env sems r.later es in
       let gs2 = all_hold_later st x y src ins sources r.later gs in
       let T = PartTargets (Own M) (ArrayOf len yt) w s in
-      let r2 = lines_run n loads xs b gt env sems xt yt e w D y rest ok.2 ok.3 ok.5 long.1 due2 room2 r.good es2 gs2 n2 a2 (omega arith) (omega arith) h.0 h.2 in
-      let r3 = ran_as st y [] h.0 rest n2 a2 n2 a2 (λ k. Unit {0}) (omega arith) (omega arith) (λ m vars z. z) (λ c q. q)
+      let r2 = lines_run n loads xs b gt env sems xt yt e w D y rest ok.2 ok.3 ok.5 long.1 due2 room2 r.good es2 gs2 n2 a2 (at_most (omega arith) (omega arith)) (omega arith) h.0 h.2 in
+      let r3 = ran_as st y [] h.0 rest n2 a2 n2 a2 (λ k. Unit {0}) (at_most (omega arith) (omega arith)) (omega arith) (λ m vars z. z) (λ c q. q)
       (λ c v q. inl (lines_own n loads xs b gt env sems xt yt e w D y rest ok.2 ok.3 ok.5 long.1 due2 room2 r.good es2 gs2 c v q)) (λ c v q. own_lines n loads xs b gt env sems xt yt e w D y rest ok.2 ok.3 ok.5 long.1 due2 room2 r.good es2 gs2 c v q) r2 in
       let r4 = ran_on st x [] code h.0 rest n1 a1 n2 a2 (scratch_then st x.arrays a1 a2 T (omega arith) (omega arith) (part_unscratched (Own M) x.arrays a2 (ArrayOf len yt) w s due2)) r r3 in
       subst (λ t. Ran st x [] code rest n2 (x.arrays + (private_count xs + private_count b)) (Scratch x.arrays (x.arrays + (private_count xs + private_count b))) (PartTargets (Own M) t w s) (λ k. Unit {0})) (sym ok.6)
@@ -411,11 +411,12 @@ module _ {A : Type 0} (num : A → ℕ) (l : Launch) (src : ℕ → Ty) (ins : �
   setting j = record { device = d; item = j; owners = owners; locals = 0 }
 
   abbrev known : ℕ → Known
-  known j = record { memory = s.memory; vars = start.vars j; count = 0; arrays = 0 }
+  known j = record { memory = s.memory; vars = start.vars j; count = no_variables; arrays = 0 }
 
   given_holds : (j : ℕ) (m : Mark) (v : ℕ) → IsGiven c m v → HoldsAt (setting j) (known j) m v
   given_holds j Nowhere v g = g
   given_holds j (Register r) v g = absurd g
+  given_holds j (Lane r i) v g = absurd g
   given_holds j (Spot (Output a) i) v g = absurd g
   given_holds j (Spot (Local a) i) v g = absurd g
   given_holds j (Spot (Private a) i) v g = absurd g
@@ -456,7 +457,7 @@ module _ {A : Type 0} (num : A → ℕ) (l : Launch) (src : ℕ → Ty) (ins : �
   Mine j b v = (cs : List Bool) × (q : List ℕ) × IsPosition ty cs q × (owner num l t q ≡ j) × (b ≡ mark_cell (setting j) (output_marks ty cs q)) × (v ≡ value cs q)
 
   abbrev Runs : ℕ → Type 0
-  Runs j = Ran (setting j) (known j) [] k.code End (0 + variable_count t) (0 + private_count t) (Scratch 0 (0 + private_count t)) (Mine j) (λ y. Unit {0})
+  Runs j = Ran (setting j) (known j) [] k.code End (more no_variables (variable_count t)) (0 + private_count t) (Scratch 0 (0 + private_count t)) (Mine j) (λ y. Unit {0})
 
   -- of a term with no map over rows on top all items lie in one row
   first_line : (j : ℕ) → j < item_count l → is_in_rows t ≡ false → row_of l j ≡ 0
@@ -467,16 +468,16 @@ module _ {A : Type 0} (num : A → ℕ) (l : Launch) (src : ℕ → Ty) (ins : �
 
   item_runs : (j : ℕ) → j < item_count l → Runs j
   item_runs j lt =
-      let room : 0 + variable_count t ≤ length (start.vars j).words = (let a = h.made.variables in let b = start.long j lt in omega arith) in
+      let room : Fits (more no_variables (variable_count t)) (start.vars j) = (let a = h.made.variables in let b = start.long j lt in let c = h.made.vectors in let e = start.wide j lt in record { words = omega arith; fours = omega arith }) in
       ⊎_elim
       (λ z.
       let only = λ (q : List ℕ). (let a = owner_below num l t q h.made.whole h.made.some in let b = z.0 in let e : owner num l t q ≡ j = omega arith in e) in
-      ran_as (setting j) (known j) [] k.code End (0 + variable_count t) (0 + private_count t) (0 + variable_count t) (0 + private_count t) (λ y. Unit {0}) (omega arith) (omega arith) (λ m vars u. u) (λ b u. u)
+      ran_as (setting j) (known j) [] k.code End (more no_variables (variable_count t)) (0 + private_count t) (more no_variables (variable_count t)) (0 + private_count t) (λ y. Unit {0}) (many_more no_variables (variable_count t)) (omega arith) (λ m vars u. u) (λ b u. u)
       (λ b v u. inl (u.0, u.1, u.2, only u.1, u.3, u.4)) (λ b v u. (u.0, u.1, u.2, u.4, u.5))
-      (writes (setting j) num ins src sources (own j) t [] [] refl no_type no_marks no_scalars ty (output_marks ty) (known j) k.code End h.made.typed (subst (λ i. IsWritten l i ins num [] no_marks 0 0 t (output_marks ty) k.code End) (let b = z.0 in omega arith) z.1) room declared
+      (writes (setting j) num ins src sources (own j) t [] [] refl no_type no_marks no_scalars ty (output_marks ty) (known j) k.code End h.made.typed (subst (λ i. IsWritten l i ins num [] no_marks 0 no_variables t (output_marks ty) k.code End) (let b = z.0 in omega arith) z.1) room declared
       (record { at = λ cs q w. due_at j cs q w (only q); choices = same_choices j; places = same_places j }) (nothing_bound j) (all_given j)))
       (λ z.
-      ran_as (setting j) (known j) [] k.code End (0 + variable_count t) (0 + private_count t) (0 + variable_count t) (0 + private_count t) (λ y. Unit {0}) (omega arith) (omega arith) (λ m vars u. u) (λ b u. u)
+      ran_as (setting j) (known j) [] k.code End (more no_variables (variable_count t)) (0 + private_count t) (more no_variables (variable_count t)) (0 + private_count t) (λ y. Unit {0}) (many_more no_variables (variable_count t)) (omega arith) (λ m vars u. u) (λ b u. u)
       (λ b v u. inl (u.0, u.1, u.2, owner_is num l t u.1 j u.3.0 u.3.1, u.4, u.5)) (λ b v u. (u.0, u.1, u.2, owner_parts j lt u.1 u.3, u.4, u.5))
       (tops num ins src sources (setting j) (own j) lt h.made.whole h.made.few t no_type no_marks no_scalars ty (output_marks ty) (known j) k.code End (first_line j lt) h.made.typed (z j lt) room declared
       (record { at = λ cs q w o. due_at j cs q w (owner_is num l t q j o.0 o.1); choices = same_choices j; places = same_places j }) (nothing_bound j) (all_given j)))

@@ -1,10 +1,10 @@
 -- Kernels that differ in the spelling of indices and bounds alone.
 use Rattle.std.specs.Prelude.{◌≡◌, ℕ, ◌+◌, ◌*◌, ◌<◌, Bool, true, false, List, [], ◌∷◌, ◌++◌, Some}
 use Rattle.kernel_tree.specs.declared.events.Event.{Event}
-use Rattle.kernel_tree.specs.Formula.{Formula, Vars, value, bound_value}
-use Rattle.kernel_tree.specs.Code.{Array, Statement, Assigns, Loads, Stores, Syncs, Code, End, Performs, Loops, Guards, Kernel, start_value, stride_value}
+use Rattle.kernel_tree.specs.Formula.{Formula, Four, Vars, value, bound_value}
+use Rattle.kernel_tree.specs.Code.{Array, Statement, Assigns, Loads, Stores, AssignsFour, LoadsFour, StoresFour, Syncs, Code, End, Performs, Loops, Guards, Kernel, start_value, stride_value}
 use Rattle.kernel_tree.specs.Launch.{Launch, Cells, IsWhole, item_count, ids_of}
-use Rattle.kernel_tree.specs.Item.{Frame, Item, item, loop_variables, Wants, Ends, Waits, Moves, Reads, Writes, Fails}
+use Rattle.kernel_tree.specs.Item.{Frame, Item, item, loop_variables, Wants, Ends, Waits, Moves, Reads, Writes, ReadsFour, WritesFour, Fails}
 use Rattle.kernel_tree.specs.Device.{Device, State, Fence, device_of, length_in, run, IsRun}
 use Rattle.kernel_tree.specs.Faults.{accesses, NoFailure}
 use Rattle.kernel_tree.specs.Histories.{history}
@@ -26,12 +26,16 @@ module _ (l : Launch) (item : ℕ) where
 
 -- and, where `grouped`, with the ifs and barriers of a map over groups
 module _ (grouped : Bool) (l : Launch) (item : ℕ) where
-  -- statements of one kind, at these turns of the loops around them; none has variables of four
-  -- words
+  -- statements of one kind, at these turns of the loops around them
   abbrev pub AlikeStatement : List ℕ → Statement → Statement → Type 0
   AlikeStatement ts (Assigns v e) (Assigns u f) = (v ≡ u) × (e ≡ f)
   AlikeStatement ts (Loads v a i) (Loads u b j) = (v ≡ u) × (a ≡ b) × SameIndex l item ts i j
   AlikeStatement ts (Stores a i e) (Stores b j f) = (a ≡ b) × SameIndex l item ts i j × (e ≡ f)
+  AlikeStatement ts (AssignsFour v e) (AssignsFour u f) = (v ≡ u) × (e ≡ f)
+  AlikeStatement ts (LoadsFour v a i) (LoadsFour u b j) =
+      (v ≡ u) × (a ≡ b) × SameIndex l item ts i j
+  AlikeStatement ts (StoresFour a i e) (StoresFour b j f) =
+      (a ≡ b) × SameIndex l item ts i j × (e ≡ f)
   AlikeStatement ts (Syncs a b) (Syncs c d) = (grouped ≡ true) × (a ≡ c) × (b ≡ d)
   AlikeStatement ts _ _ = ⊥
 
@@ -72,6 +76,10 @@ module _ (grouped : Bool) (l : Launch) (item : ℕ) where
   AlikeWants (Moves x) (Moves y) = AlikeItems x y
   AlikeWants (Reads a n f) (Reads b m g) = (a ≡ b) × (n ≡ m) × ((v : ℕ) → AlikeItems (f v) (g v))
   AlikeWants (Writes a n v x) (Writes b m u y) = (a ≡ b) × (n ≡ m) × (v ≡ u) × AlikeItems x y
+  AlikeWants (ReadsFour a n f) (ReadsFour b m g) =
+      (a ≡ b) × (n ≡ m) × ((u : Four) → AlikeItems (f u) (g u))
+  AlikeWants (WritesFour a n v x) (WritesFour b m u y) =
+      (a ≡ b) × (n ≡ m) × (v ≡ u) × AlikeItems x y
   AlikeWants (Fails f) (Fails g) = f ≡ g
   AlikeWants _ _ = ⊥
 

@@ -8,7 +8,7 @@ use Rattle.lift_ir.specs.Scalars.{by_side}
 use Rattle.lift_ir.specs.Terms.{Space, LocalMemory, PrivateMemory, Term, Bound, Source, Both, Project, Reshape, LetArray, Copy, push}
 use Rattle.printed_form.specs.Counts.{local_count, private_count}
 use Rattle.printed_form.specs.Marks.{Nowhere, Marks, laid_in}
-use Rattle.printed_form.specs.Views.{Blank, View, operand_indices, laid_view}
+use Rattle.printed_form.specs.Views.{Blank, View, reshaped_view, laid_view}
 
 -- the arrays that copies lie in: the one with a number, how many a term has, and whether copies to
 -- a space lie there
@@ -62,7 +62,7 @@ module _ {A : Type 0} (arrays : CopyArrays A) where
       (argument_view spell ins env (a + arrays.count x) y)
   argument_view spell ins env a (Project s x) = λ cs is. argument_view spell ins env a x (s ∷ cs) is
   argument_view spell ins env a (Reshape y x) =
-      λ cs is. argument_view spell ins env a x cs (operand_indices spell y is)
+      reshaped_view spell y (argument_view spell ins env a x)
   argument_view spell ins env a (LetArray v b) =
       argument_view spell ins (push (argument_view spell ins env a v) env) (a + arrays.count v) b
   argument_view spell ins env a (Copy space ty x) =

@@ -5,19 +5,21 @@ use Rattle.size_arith.specs.declared.poly.Monomial.{Monomial}
 use Rattle.lift_tree.specs.Typing.{Declared}
 use Rattle.kernel_tree.specs.Formula.{Formula}
 use Rattle.kernel_tree.specs.Code.{Array, Output, Code, Loops, Guards, Kernel}
-use Rattle.kernel_tree.specs.Grammar.{are_lengths, are_statements, has_statement, is_group_size, is_kernel, is_readable, is_writable}
+use Rattle.kernel_tree.specs.Grammar.{are_lengths, are_statements, has_statement, is_group_size, is_kernel, is_readable, is_writable, is_shared}
 use Rattle.lift_ir.specs.Types.{Shape, Ty, width}
+use Rattle.lift_ir.specs.Fours.{Lie, Serves, element_lie, read_lie, written_lie, bound_lie, LoadsFours, Lies, WritesFours}
 use Rattle.lift_ir.specs.Layouts.{Layout}
 use Rattle.lift_ir.specs.Scalars.{by_side}
 use Rattle.lift_ir.specs.Terms.{LoadSet, Kind, Space, LocalMemory, PrivateMemory, Term}
 use Rattle.printed_form.specs.Arguments.{arrays_of, argument_view}
-use Rattle.printed_form.specs.Counts.{load_count, variable_count, private_count, copy_lengths}
+use Rattle.printed_form.specs.Counts as counts
+use Rattle.printed_form.specs.Counts.{Count, AtMost, more, load_count, variable_count, private_count, copy_lengths}
 use Rattle.printed_form.specs.Form.{start_of, stride_of}
-use Rattle.printed_form.specs.Views.{View, Blank, loaded_view, view_at, operand_indices, result_indices, placed_view, laid_view}
+use Rattle.printed_form.specs.Views.{View, Blank, loaded_view, view_at, reshaped_view, rewritten_view, placed_view, laid_view}
 use Rattle.printed_form.specs.Printer.{input_views, print_loaded, print_written}
 use Rattle.printed_form.specs.Programs.{buffer_count, first_buffer, input_shape}
-use Rattle.printed_form.specs.Sound.{IsSpelledIn, AllLengths, IsSoundLayout, dimensions, stacked, IsWrittenWithin, loop_depth, AreLow, CanBeWritten}
-use Rattle.printed_form.specs.GrammarViews.{IsTurnFormula, ReadsWithin, FillsWithin, AllReadWithin}
+use Rattle.printed_form.specs.Sound.{variables_of, IsSpelledIn, AllLengths, IsSoundLayout, dimensions, stacked, IsWrittenWithin, loop_depth, AreLow, CanBeWritten}
+use Rattle.printed_form.specs.GrammarViews.{IsTurnFormula, ReadsWithin, FillsWithin, AllReadWithin, LiesShared, AllLieShared}
 use Rattle.printed_form.specs.KernelGrammar.{IsSoundIn}
 
 -- which views read, and which tell where to write, within the grammar of a kernel, where lengths
@@ -37,13 +39,14 @@ pub record ViewsStay (k : Kernel) (high : ℕ) : Type 0 where
   -- through one more layout
   pub operand : (spell : List Monomial → Formula) (y : Layout (List Monomial)) (l h : ℕ) (x : View)
       → IsSoundLayout (λ n. IsSpelledIn k high (spell n)) y → ReadsWithin k high l h x
-      → ReadsWithin k high l (suc h) (λ cs is. x cs (operand_indices spell y is))
+      → ReadsWithin k high l (suc h) (reshaped_view spell y x)
   pub result : (spell : List Monomial → Formula) (y : Layout (List Monomial)) (l h : ℕ) (w : View)
       → IsSoundLayout (λ n. IsSpelledIn k high (spell n)) y → FillsWithin k high l h w
-      → FillsWithin k high l (suc h) (λ cs is. w cs (result_indices spell y is))
+      → FillsWithin k high l (suc h) (rewritten_view spell y w)
   -- the element at a turn, of which scalars are loaded, and its place
-  pub element : (turn : Formula) (loads : LoadSet) (l h n : ℕ) (x : View)
-      → IsTurnFormula k l turn → n + load_count loads ≤ k.variables → ReadsWithin k high l h x
+  pub element : (turn : Formula) (loads : LoadSet) (l h : ℕ) (n : Count) (x : View)
+      → IsTurnFormula k l turn → AtMost (counts.more n (load_count loads)) (variables_of k)
+      → ReadsWithin k high l h x
       → ReadsWithin k high l h (loaded_view loads (view_at turn x) n)
   pub read : (turn : Formula) (l h : ℕ) (x : View)
       → IsTurnFormula k l turn → ReadsWithin k high l h x
@@ -54,12 +57,25 @@ pub record ViewsStay (k : Kernel) (high : ℕ) : Type 0 where
   -- declared arrays of literal lengths
   pub laid : (form : ℕ → Array) (first : ℕ) (ty : Ty) (l : ℕ)
       → ((c : ℕ) → c < width ty → is_readable k (form (first + c)) ≡ true)
-      → AllLengths (λ n. n < 2 ^ 32) ty → dimensions ty ≤ 4
+      → AllLengths (λ n. n < 2 ^ 32) ty → dimensions ty ≤ 5
       → ReadsWithin k high l 0 (laid_view form first ty)
   pub laid_places : (form : ℕ → Array) (first : ℕ) (ty : Ty) (l : ℕ)
       → ((c : ℕ) → c < width ty → is_writable k (form (first + c)) ≡ true)
-      → AllLengths (λ n. n < 2 ^ 32) ty → dimensions ty ≤ 4
+      → AllLengths (λ n. n < 2 ^ 32) ty → dimensions ty ≤ 5
       → FillsWithin k high l 0 (laid_view form first ty)
+  -- views of what lies whole or in fours: it lies so in every weaker sense, through a layout, at a
+  -- turn, and once scalars are loaded
+  pub served : (y z : Lie) (x : View) → Serves y z → LiesShared y x → LiesShared z x
+  pub read_so : (spell : List Monomial → Formula) (m : Layout (List Monomial)) (y : Lie) (x : View)
+      → LiesShared y x → LiesShared (read_lie m y) (reshaped_view spell m x)
+  pub written_so : (spell : List Monomial → Formula) (m : Layout (List Monomial)) (y : Lie)
+      (w : View) → LiesShared y w → LiesShared (written_lie m y) (rewritten_view spell m w)
+  pub at_turn : (turn : Formula) (y : Lie) (x : View)
+      → LiesShared y x → LiesShared (element_lie y) (view_at turn x)
+  pub bound_so : (loads : LoadSet) (y : Lie) (n : Count) (x : View)
+      → LiesShared y x → LiesShared (bound_lie loads y) (loaded_view loads x n)
+  pub laid_so : (form : ℕ → Array) (first : ℕ) (ty : Ty) (y : Lie)
+      → ((n : ℕ) → is_shared (form n) ≡ true) → LiesShared y (laid_view form first ty)
 
 -- of any kernel, and of lengths of any height but 0
 abbrev pub ViewsStayWithin : Type 0
@@ -68,12 +84,13 @@ ViewsStayWithin = (k : Kernel) (high : ℕ) → 1 ≤ high → ViewsStay k high
 -- which statements of maps are of the grammar of a kernel, in so many loops and ifs, where lengths
 -- are at most so high
 pub record MapsStay (k : Kernel) (high : ℕ) : Type 0 where
-  -- the loads of an element that reads within it
-  pub loads : (l ifs h n : ℕ) (loads : LoadSet) (x : View) (rest : Code)
-      → high + (8 + 3 * h) ≤ 1024 → n + load_count loads ≤ k.variables → ReadsWithin k high l h x
+  -- the loads of an element that reads within it, its vectors from no private array
+  pub loads : (l ifs h : ℕ) (n : Count) (loads : LoadSet) (x : View) (y : Lie) (rest : Code)
+      → high + (10 + 3 * h) ≤ 1024 → AtMost (more n (load_count loads)) (variables_of k)
+      → ReadsWithin k high l h x → LiesShared y x → LoadsFours y loads
       → are_statements k l (ifs + l) rest ≡ true
       → are_statements k l (ifs + l) (print_loaded loads x n rest) ≡ true
-  pub loaded : (loads : LoadSet) (x : View) (n : ℕ) (rest : Code) → has_statement rest ≡ true
+  pub loaded : (loads : LoadSet) (x : View) (n : Count) (rest : Code) → has_statement rest ≡ true
       → has_statement (print_loaded loads x n rest) ≡ true
   -- a loop and an `if`, where their body is
   pub loop : (l ifs : ℕ) (kind : Kind) (bound : Formula) (body rest : Code)
@@ -95,7 +112,7 @@ MapsAreOfTheGrammar = (k : Kernel) (high : ℕ) → 1 ≤ high → high ≤ 1024
 -- program's inputs
 pub record HasRoomFor (k : Kernel) (high most : ℕ) (d : Declared) : Type 0 where
   pub some : 1 ≤ high
-  pub fits : high + (8 + 3 * most) ≤ 1024
+  pub fits : high + (10 + 3 * most) ≤ 1024
   pub inputs : k.inputs ≡ buffer_count d.inputs
 
 -- the lengths of the kernel's arrays in a space
@@ -109,46 +126,53 @@ views_of_inputs spell d = input_views spell (first_buffer d.inputs) (input_shape
 
 module _ (k : Kernel) (spell : List Monomial → Formula) (high most : ℕ) (d : Declared) where
   -- a term in writing position, so deep in loops and ifs and below so many layouts, where so many
-  -- stand over what binders stand for, from these variables and private arrays on
-  pub record CanBePrinted (g : ℕ → ℕ) (depth above variable private : ℕ) (t : Term (List Monomial))
-      : Type 0 where
+  -- stand over what binders stand for, from these variables and private arrays on; where binders
+  -- lie so, and its value is to
+  pub record CanBePrinted (g : ℕ → ℕ) (lies : ℕ → Lie) (lie : Lie) (depth above : ℕ)
+      (variable : Count) (private : ℕ) (t : Term (List Monomial)) : Type 0 where
     pub written : CanBeWritten t
     pub sound : IsSoundIn k spell high d t
     pub layouts : IsWrittenWithin most g above t
-    pub low : AreLow 1024 t
+    pub low : AreLow 1023 t
+    pub fours : WritesFours lies lie t
     pub deep : depth + loop_depth t ≤ 1024
-    pub variables : variable + variable_count t ≤ k.variables
+    pub variables : AtMost (more variable (variable_count t)) (variables_of k)
     pub privates : private + private_count t ≤ length k.privates
 
   -- what is printed of a program's terms is of the grammar
   pub record TermsAreOfTheGrammar : Type 0 where
     -- what stands for an argument, whose copies lie in the kernel's arrays of a space, reads within
-    -- it, and the output is filled within it
+    -- it, and lies where vectors may; and the output is filled within it
     pub arguments : (s : Space) (l first : ℕ) (g : ℕ → ℕ) (env : ℕ → View)
         (t : Term (List Monomial))
         → AllReadWithin k high l g env → IsSoundIn k spell high d t
         → first + (arrays_of s).count t ≤ length (arrays_in k s)
         → ReadsWithin k high l (stacked g t)
         (argument_view (arrays_of s) spell (views_of_inputs spell d) env first t)
+    pub lying : (s : Space) (first : ℕ) (lies : ℕ → Lie) (env : ℕ → View)
+        (t : Term (List Monomial)) (y : Lie) → AllLieShared lies env → Lies lies t y
+        → LiesShared y (argument_view (arrays_of s) spell (views_of_inputs spell d) env first t)
     pub output : (ty : Shape (List Monomial)) → k.outputs ≡ width ty
-        → AllLengths (λ n. IsSpelledIn k high (spell n)) ty → dimensions ty ≤ 4
+        → AllLengths (λ n. IsSpelledIn k high (spell n)) ty → dimensions ty ≤ 5
         → FillsWithin k high 0 0 (placed_view spell Output 0 ty)
     -- the code of a term in writing position is of it, and has a statement
-    pub codes : (l ifs above variable private : ℕ) (g : ℕ → ℕ) (env : ℕ → View)
-        (t : Term (List Monomial)) (w : View) (rest : Code)
+    pub codes : (l ifs above : ℕ) (variable : Count) (private : ℕ) (g : ℕ → ℕ) (lies : ℕ → Lie)
+        (lie : Lie) (env : ℕ → View) (t : Term (List Monomial)) (w : View) (rest : Code)
         → AllReadWithin k high l g env → FillsWithin k high l above w
-        → CanBePrinted g (ifs + l) above variable private t
+        → AllLieShared lies env → LiesShared lie w
+        → CanBePrinted g lies lie (ifs + l) above variable private t
         → are_statements k l (ifs + l) rest ≡ true
         → are_statements k l (ifs + l)
         (print_written spell (views_of_inputs spell d) l env private variable t w rest) ≡ true
-    pub statements : (l depth above variable private : ℕ) (g : ℕ → ℕ) (env : ℕ → View)
-        (t : Term (List Monomial)) (w : View) (rest : Code)
-        → FillsWithin k high l above w → CanBePrinted g depth above variable private t
+    pub statements : (l depth above : ℕ) (variable : Count) (private : ℕ) (g : ℕ → ℕ)
+        (lies : ℕ → Lie) (lie : Lie) (env : ℕ → View) (t : Term (List Monomial)) (w : View)
+        (rest : Code)
+        → FillsWithin k high l above w → CanBePrinted g lies lie depth above variable private t
         → has_statement
         (print_written spell (views_of_inputs spell d) l env private variable t w rest) ≡ true
     -- and where a statement follows it
-    pub kept : (l variable private : ℕ) (env : ℕ → View) (t : Term (List Monomial)) (w : View)
-        (rest : Code)
+    pub kept : (l : ℕ) (variable : Count) (private : ℕ) (env : ℕ → View)
+        (t : Term (List Monomial)) (w : View) (rest : Code)
         → has_statement rest ≡ true
         → has_statement
         (print_written spell (views_of_inputs spell d) l env private variable t w rest) ≡ true

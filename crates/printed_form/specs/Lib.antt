@@ -12,6 +12,7 @@ pub mod Views
 pub mod Means
 pub mod Printer
 pub mod PrinterLaw
+pub mod VectorIndices
 pub mod Alike
 pub mod Theorem
 pub mod Programs

@@ -6,6 +6,7 @@ use Rattle.lift_ir.specs.Types.{Shape, measured, IsPlaced}
 use Rattle.lift_ir.specs.Terms.{Term, HasType, no_type}
 use Rattle.lift_ir.specs.Loads.{none, LoadsSuffice}
 use Rattle.lift_ir.specs.Forms.{Stands, StandsOverLaunch}
+use Rattle.lift_ir.specs.Fours.{KeepsFours}
 use Rattle.printed_form.specs.Whole.{IsCode}
 use Rattle.printed_form.specs.Means.{IsSpelled}
 use Rattle.printed_form.specs.Printer.{input_marks, kernel_code}
@@ -18,7 +19,7 @@ PrinterPrints A =
     → ((n : A) → num n < 2 ^ 31 → IsSpelled l (spell n) (num n)) → (first : ℕ → ℕ)
     (src : ℕ → Shape A) (t : Term A) (ty : Shape A) → ((item_count l ≡ 1) × Stands true t)
     ⊎ StandsOverLaunch t
-    → HasType num (λ v. measured num (src v)) no_type t (measured num ty)
+    → KeepsFours t → HasType num (λ v. measured num (src v)) no_type t (measured num ty)
     → LoadsSuffice (λ v. none) t → IsPlaced num ty → ((v : ℕ) → IsPlaced num (src v))
     → IsCode l (input_marks num first src) num t (measured num ty)
     (kernel_code spell first src t ty)

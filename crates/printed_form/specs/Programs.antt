@@ -21,6 +21,7 @@ use Rattle.lift_ir.specs.AtLaunch.{length_at, ty_at, shape_of}
 use Rattle.lift_ir.specs.Lowering.{Written, Lowered, lower}
 use Rattle.lift_ir.specs.Lowerable.{IsLowerable, IsStaged}
 use Rattle.lift_ir.specs.Forms.{Stands, StandsOverLaunch}
+use Rattle.lift_ir.specs.Fours.{KeepsFours}
 use Rattle.printed_form.specs.Means.{IsSpelled}
 use Rattle.lift_ir.specs.Owner.{owner, is_in_rows}
 use Rattle.printed_form.specs.Headline.{EveryRunKeeps}
@@ -50,9 +51,8 @@ abbrev pub lowered_root : List Name → Tree → Annotation → Lowered
 lowered_root names t a = lower names Written t a
 
 -- The kernel declares what the typed term needs, whatever its code: a parameter for each component
--- of each input, then of the output, then for each size; local and private arrays, and private
--- variables, of which none has four words. And it asks for the size of groups that the script
--- fixes.
+-- of each input, then of the output, then for each size; local and private arrays; and private
+-- variables, of a word and of four. And it asks for the size of groups that the script fixes.
 pub record DeclaresFor (d : Declared) (size : Option (ℕ × ℕ)) (t : Tree) (a : Annotation)
     (k : Kernel) : Type 0 where
   pub inputs : k.inputs ≡ buffer_count d.inputs
@@ -60,8 +60,8 @@ pub record DeclaresFor (d : Declared) (size : Option (ℕ × ℕ)) (t : Tree) (a
   pub sizes : k.sizes ≡ length d.names
   pub locals : k.locals ≡ copy_lengths LocalMemory (lowered_root d.names t a)
   pub privates : k.privates ≡ copy_lengths PrivateMemory (lowered_root d.names t a)
-  pub variables : k.variables ≡ variable_count (lowered_root d.names t a)
-  pub vectors : k.vectors ≡ 0
+  pub variables : k.variables ≡ (variable_count (lowered_root d.names t a)).words
+  pub vectors : k.vectors ≡ (variable_count (lowered_root d.names t a)).fours
   pub local : k.local ≡ size
 
 -- such a kernel with this code
@@ -72,8 +72,8 @@ declared_kernel d size t a code = record {
   sizes = length d.names;
   locals = copy_lengths LocalMemory (lowered_root d.names t a);
   privates = copy_lengths PrivateMemory (lowered_root d.names t a);
-  variables = variable_count (lowered_root d.names t a);
-  vectors = 0;
+  variables = (variable_count (lowered_root d.names t a)).words;
+  vectors = (variable_count (lowered_root d.names t a)).fours;
   local = size;
   code = code;
 }
@@ -159,7 +159,8 @@ ProgramsArePrinted =
     (d : Declared) (asks : Asks) (bases : List ℕ) (t : Tree) (a : Annotation) (l : Launch)
     (spell : List Monomial → Formula)
     → IsLowerableProgram d bases t a → IsLaunchOf d asks bases t a l → IsStaged Written t a
-    → StandsAt l (lowered_root d.names t a) → FitsBuffers d bases a → IsSpelling spell bases l
+    → StandsAt l (lowered_root d.names t a) → KeepsFours (lowered_root d.names t a)
+    → FitsBuffers d bases a → IsSpelling spell bases l
     → Prints d asks.local bases t a l (printed_kernel spell d asks.local t a)
 
 -- states that hold the same contents: the items' variables, and memory

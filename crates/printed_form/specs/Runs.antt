@@ -1,15 +1,31 @@
 -- What one item does, whatever the others do to cells that it does not look at.
-use Rattle.std.specs.Prelude.{◌≡◌, ℕ, ◌<◌, ◌≤◌, Bool, List, [], length, Option, Some, ◌⊎◌}
-use Rattle.kernel_tree.specs.Formula.{Formula, Vars, word, value}
+use Rattle.std.specs.Prelude.{◌≡◌, ℕ, zero, suc, ◌<◌, ◌≤◌, Bool, List, [], length, Option, Some, ◌⊎◌, true, false, ◌∷◌}
+use Rattle.kernel_tree.specs.Formula.{Formula, Lanes, Four, Vars, word, vector, value, lanes_value}
 use Rattle.kernel_tree.specs.Code.{Array, Input, Output, Local, Private, Code}
 use Rattle.kernel_tree.specs.Launch.{ids_of}
 use Rattle.kernel_tree.specs.Item.{Frame, item}
 use Rattle.kernel_tree.specs.Device.{Device, Cell, cell_at, Memory}
 use Rattle.kernel_tree.specs.Deeds.{Deed, Goes, Every, written}
 use Rattle.kernel_tree.specs.Independent.{Owners, MayRead, IsAllowed, Agrees, write_count}
-use Rattle.lift_ir.specs.Types.{Ty, IsPosition}
+use Rattle.lift_ir.specs.Types.{Ty, Scalar, PairOf, ArrayOf, IsFour, IsPosition}
+use Rattle.printed_form.specs.Expressions.{Expr, OneWord, FourWords}
 use Rattle.lift_ir.specs.Scalars.{Scalars}
-use Rattle.printed_form.specs.Marks.{Mark, Nowhere, Register, Spot, Marks}
+use Rattle.printed_form.specs.Counts.{Count}
+use Rattle.printed_form.specs.Marks.{Mark, Nowhere, Register, Lane, Spot, Marks}
+
+-- a component of an element that is a vector
+abbrev pub IsFourAt : Ty → List Bool → Type 0
+IsFourAt Scalar cs = ⊥
+IsFourAt (PairOf a b) [] = ⊥
+IsFourAt (PairOf a b) (false ∷ cs) = IsFourAt a cs
+IsFourAt (PairOf a b) (true ∷ cs) = IsFourAt b cs
+IsFourAt (ArrayOf n t) [] = IsFour n t
+IsFourAt (ArrayOf n t) (c ∷ cs) = ⊥
+
+-- so many variables are there
+pub record Fits (n : Count) (vars : Vars) : Type 0 where
+  pub words : n.words ≤ length vars.words
+  pub fours : n.fours ≤ length vars.vectors
 
 -- an item of a stretch: whose the cells are, and how many local arrays were filled before
 pub record Setting : Type 0 where
@@ -23,14 +39,26 @@ pub record Setting : Type 0 where
 pub record Known : Type 0 where
   pub memory : Memory
   pub vars : Vars
-  pub count : ℕ
+  pub count : Count
   pub arrays : ℕ
 
--- variables below n are as they were, and so are those of four words
-pub record Kept (n : ℕ) (vars later : Vars) : Type 0 where
+-- the word in a lane of four
+abbrev pub lane : Four → ℕ → ℕ
+lane u zero = u.x
+lane u (suc zero) = u.y
+lane u (suc (suc zero)) = u.z
+lane u (suc (suc (suc n))) = u.w
+
+-- four words, lane by lane
+abbrev pub four_of : (ℕ → ℕ) → Four
+four_of f = record { x = f 0; y = f 1; z = f 2; w = f 3 }
+
+-- variables below n are as they were, those of a word and those of four
+pub record Kept (n : Count) (vars later : Vars) : Type 0 where
   pub long : length later.words ≡ length vars.words
-  pub same : (v : ℕ) → v < n → word later v ≡ word vars v
-  pub vectors : later.vectors ≡ vars.vectors
+  pub wide : length later.vectors ≡ length vars.vectors
+  pub same : (v : ℕ) → v < n.words → word later v ≡ word vars v
+  pub same_four : (v : ℕ) → v < n.fours → vector later v ≡ vector vars v
 
 -- an array that is filled already: an input, or one numbered below
 abbrev pub IsFilled : (locals privates : ℕ) → Array → Type 0
@@ -64,11 +92,13 @@ module _ (st : Setting) where
   abbrev pub mark_cell : Mark → Cell
   mark_cell (Spot b i) = spot_cell b i
   mark_cell (Register v) = spot_cell (Input 0) 0
+  mark_cell (Lane v j) = spot_cell (Input 0) 0
   mark_cell Nowhere = spot_cell (Input 0) 0
 
   -- all that was in use before is as it was
   pub record Later (x y : Known) : Type 0 where
-    pub more : x.count ≤ y.count
+    pub more : x.count.words ≤ y.count.words
+    pub more_fours : x.count.fours ≤ y.count.fours
     pub more_arrays : x.arrays ≤ y.arrays
     pub kept : Kept x.count x.vars y.vars
     pub same : (c : Cell) → IsFilled st.locals x.arrays c.array → y.memory c ≡ x.memory c
@@ -83,7 +113,8 @@ module _ (st : Setting) where
   -- what a mark stands for is v
   abbrev pub HoldsAt : Known → Mark → ℕ → Type 0
   HoldsAt x Nowhere v = ⊥
-  HoldsAt x (Register r) v = (r < x.count) × (word x.vars r ≡ v)
+  HoldsAt x (Register r) v = (r < x.count.words) × (word x.vars r ≡ v)
+  HoldsAt x (Lane r j) v = (r < x.count.fours) × (lane (vector x.vars r) j ≡ v)
   HoldsAt x (Spot b i) v = Readable x b i v
 
   -- what stands for a value of a type has its scalars
@@ -94,12 +125,26 @@ module _ (st : Setting) where
   abbrev pub AllHold : Known → (ℕ → Ty) → (ℕ → Marks) → (ℕ → Scalars) → Type 0
   AllHold x g env sems = (v : ℕ) → Holds x (g v) (env v) (sems v)
 
-  -- expressions have an element's scalars, now and as long as the variables in use are kept
-  abbrev pub Values : List ℕ → Known → Ty → (List Bool → Option Formula) → Scalars → Type 0
+  -- an expression has this value, now and as long as the variables in use are kept
+  abbrev pub HasValue : List ℕ → Known → Formula → ℕ → Type 0
+  HasValue ts x e n =
+      (later : Vars) → Kept x.count x.vars later
+      → value (ids_of st.device.launch st.item) ts later e ≡ Some n
+
+  -- and one of four words these
+  abbrev pub HasLanes : List ℕ → Known → Lanes → (ℕ → ℕ) → Type 0
+  HasLanes ts x e s =
+      (later : Vars) → Kept x.count x.vars later
+      → lanes_value (ids_of st.device.launch st.item) ts later e ≡ Some (four_of s)
+
+  -- expressions have an element's scalars, word by word and vector by vector
+  abbrev pub Values : List ℕ → Known → Ty → (List Bool → Option Expr) → Scalars → Type 0
   Values ts x ty f s =
-      (cs : List Bool) (e : Formula) → IsPosition ty cs [] → f cs ≡ Some e → (later : Vars)
-      → Kept x.count x.vars later
-      → value (ids_of st.device.launch st.item) ts later e ≡ Some (s cs [])
+      ((cs : List Bool) (e : Formula) → IsPosition ty cs [] → f cs ≡ Some (OneWord e)
+      → HasValue ts x e (s cs []))
+      ×
+      ((cs : List Bool) (e : Lanes) → IsFourAt ty cs → f cs ≡ Some (FourWords e)
+      → HasLanes ts x e (λ j. s cs (j ∷ [])))
 
   -- a cell that the item is to write
   abbrev pub DueAt : ℕ → Mark → Type 0
@@ -137,7 +182,7 @@ abbrev pub no_target : Cell → ℕ → Type 0
 no_target c v = ⊥
 
 -- what it knows after such deeds, with so many variables and private arrays in use
-abbrev pub known_after : Known → List Deed → Vars → (count arrays : ℕ) → Known
+abbrev pub known_after : Known → List Deed → Vars → (count : Count) → (arrays : ℕ) → Known
 known_after x ds vars n a = record {
   memory = written ds x.memory;
   vars = vars;
@@ -146,7 +191,7 @@ known_after x ds vars n a = record {
 }
 
 -- the item goes through the code up to the rest, in whatever memory agrees with what it knows
-pub record Ran (st : Setting) (x : Known) (fs : List Frame) (code rest : Code) (n a : ℕ)
+pub record Ran (st : Setting) (x : Known) (fs : List Frame) (code rest : Code) (n : Count) (a : ℕ)
     (S : Cell → Type 0) (T : Cell → ℕ → Type 0) (G : Known → Type 0) : Type 0 where
   pub after : Vars
   pub deeds : List Deed

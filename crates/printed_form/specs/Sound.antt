@@ -4,9 +4,14 @@ use Rattle.std.specs.Prelude.{◌≡◌, ℕ, suc, ◌<◌, ◌≤◌, ◌^◌, 
 use Rattle.kernel_tree.specs.Formula.{Formula}
 use Rattle.kernel_tree.specs.Code.{Kernel}
 use Rattle.kernel_tree.specs.Grammar.{height, is_constant, is_operator, names_declared}
+use Rattle.printed_form.specs.Counts.{Count}
 use Rattle.lift_ir.specs.Types.{Shape, Scalar, PairOf, ArrayOf, IsElement, size}
 use Rattle.lift_ir.specs.Layouts.{IsInvertible, Layout, Split, Join, Transpose, Reverse, Slide, Pad}
-use Rattle.lift_ir.specs.Terms.{Term, Literal, Bound, Source, Apply, ApplyNumber, Select, Both, Project, Reshape, LetArray, LetElement, Map, Fold, Store, Copy, push}
+use Rattle.lift_ir.specs.Terms.{Term, Literal, Bound, Source, Apply, ApplyNumber, ApplyLanes, DivideLanes, Select, Both, Project, Reshape, LetArray, LetElement, Map, Fold, Store, Copy, push}
+
+-- how many private variables the kernel declares
+abbrev pub variables_of : Kernel → Count
+variables_of k = record { words = k.variables; fours = k.vectors }
 
 -- an expression names what is declared within so many loops, and is at most so high
 abbrev pub IsGood : Kernel → (loops high : ℕ) → Formula → Type 0
@@ -47,6 +52,8 @@ IsSound P Q (Bound v) = Unit {0}
 IsSound P Q (Source s) = Q s
 IsSound P Q (Apply o a b) = IsSound P Q a × IsSound P Q b
 IsSound P Q (ApplyNumber o m a) = (is_operator o ≡ true) × (m < 2 ^ 32) × IsSound P Q a
+IsSound P Q (ApplyLanes o l r a b) = (is_operator o ≡ true) × IsSound P Q a × IsSound P Q b
+IsSound P Q (DivideLanes o m a) = (is_operator o ≡ true) × (m < 2 ^ 32) × IsSound P Q a
 IsSound P Q (Select c a b) = IsSound P Q c × IsSound P Q a × IsSound P Q b
 IsSound P Q (Both zips a b) = IsSound P Q a × IsSound P Q b
 IsSound P Q (Project s a) = IsSound P Q a
@@ -58,13 +65,15 @@ IsSound P Q (Fold n loads ty xs s b) =
     P n × IsElement ty × IsSound P Q xs × IsSound P Q s × IsSound P Q b
 IsSound P Q (Store ty t) = IsElement ty × IsSound P Q t
 IsSound P Q (Copy space ty a) =
-    AllLengths (λ n. n < 2 ^ 32) ty × (dimensions ty ≤ 4) × IsSound P Q a × (0 < size ty)
+    AllLengths (λ n. n < 2 ^ 32) ty × (dimensions ty ≤ 5) × IsSound P Q a × (0 < size ty)
     × (size ty < 2 ^ 32)
 
--- how high an element term's expressions are at most
+-- how high an element term's expressions are at most; those of four words are at most one higher
 abbrev pub expression_height : {A : Type 0} → Term A → ℕ
 expression_height (Apply o a b) = suc (max (expression_height a) (expression_height b))
 expression_height (ApplyNumber o m a) = suc (expression_height a)
+expression_height (ApplyLanes o l r a b) = suc (max (expression_height a) (expression_height b))
+expression_height (DivideLanes o m a) = suc (expression_height a)
 expression_height (Select c a b) =
     suc (max (expression_height c) (max (expression_height a) (expression_height b)))
 expression_height (Both zips a b) = max (expression_height a) (expression_height b)

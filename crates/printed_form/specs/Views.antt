@@ -1,21 +1,23 @@
 -- Views: what stands for scalars, their indices expressions.
-use Rattle.std.specs.Prelude.{ℕ, ◌+◌, ◌==◌, ◌&&◌, if◌then◌else◌, Bool, true, false, List, ◌∷◌, Option, Some, None}
+use Rattle.std.specs.Prelude.{ℕ, ◌+◌, ◌==◌, ◌&&◌, if◌then◌else◌, Bool, true, false, List, [], ◌∷◌, Option, Some, None}
 use Rattle.scalar_ops.specs.declared.op.Op.{Op}
 use Rattle.scalar_ops.specs.declared.op.Op.TheVariants.{Add, Sub, Mul, Min, Max, Div, Rem}
 use Rattle.kernel_tree.specs.declared.tree.Dimension.{Dimension}
 use Rattle.kernel_tree.specs.declared.tree.Dimension.TheVariants.{X, Y}
-use Rattle.kernel_tree.specs.Formula.{IdForm, GlobalId, GroupId, LocalId, GlobalSize, GroupCount, LocalSize, Formula, Number, Variable, LoopVariable, Size, Id, Binary}
+use Rattle.kernel_tree.specs.Formula.{IdForm, GlobalId, GroupId, LocalId, GlobalSize, GroupCount, LocalSize, Formula, Number, Variable, LoopVariable, Size, Id, Binary, Vector}
 use Rattle.kernel_tree.specs.Code.{Array}
-use Rattle.lift_ir.specs.Types.{Shape, Ty, Scalar, PairOf, ArrayOf, width, component}
+use Rattle.lift_ir.specs.Types.{Shape, Ty, Scalar, PairOf, ArrayOf, component}
 use Rattle.lift_ir.specs.Layouts.{Layout, Split, Join, Transpose, Reverse, Slide, Pad}
-use Rattle.lift_ir.specs.Terms.{LoadSet, Skip, Take, Each}
+use Rattle.lift_ir.specs.Terms.{LoadSet, Skip, Take, TakeFour, Each}
 use Rattle.lift_ir.specs.Scalars.{by_side}
-use Rattle.printed_form.specs.Counts.{load_count}
+use Rattle.printed_form.specs.Expressions.{Expr, OneWord, FourWords}
+use Rattle.printed_form.specs.Counts.{Count, more, held_count, load_count}
 
 -- what stands for a scalar, its index an expression
 pub data Sign : Type 0 where
   Blank : Sign
   Held : (var : ℕ) → Sign
+  HeldFour : (var : ℕ) → Sign
   Read : (array : Array) → (index : Formula) → Sign
 
 -- what stands for a value, and where a value goes, by pair choices and index expressions
@@ -23,23 +25,26 @@ abbrev pub View : Type 0
 View = List Bool → List Formula → Sign
 
 -- the expression of what a variable holds
-abbrev pub held_sign : Sign → Option Formula
-held_sign (Held v) = Some (Variable v)
+abbrev pub held_sign : Sign → Option Expr
+held_sign (Held v) = Some (OneWord (Variable v))
+held_sign (HeldFour v) = Some (FourWords (Vector v))
 held_sign _ = None
 
--- an element in private variables, the first of which is this
-abbrev pub held_view : Ty → ℕ → View
-held_view Scalar n = λ cs is. Held n
-held_view (PairOf a b) n = by_side (λ is. Blank) (held_view a n) (held_view b (n + width a))
-held_view (ArrayOf m t) n = λ cs is. Blank
+-- an element in private variables, the first of which are these; a vector has no view of its lanes
+abbrev pub held_view : Ty → Count → View
+held_view Scalar n = λ cs is. Held n.words
+held_view (PairOf a b) n =
+    by_side (λ is. Blank) (held_view a n) (held_view b (more n (held_count a)))
+held_view (ArrayOf m t) n = λ cs is. HeldFour n.fours
 
 -- what stands for an element, once these of its scalars are loaded
-abbrev pub loaded_view : LoadSet → View → ℕ → View
+abbrev pub loaded_view : LoadSet → View → Count → View
 loaded_view Skip x n = x
-loaded_view Take x n = λ cs is. Held n
+loaded_view Take x n = λ cs is. Held n.words
+loaded_view TakeFour x n = λ cs is. HeldFour n.fours
 loaded_view (Each a b) x n =
     by_side (λ is. Blank) (loaded_view a (λ cs. x (false ∷ cs)) n)
-    (loaded_view b (λ cs. x (true ∷ cs)) (n + load_count a))
+    (loaded_view b (λ cs. x (true ∷ cs)) (more n (load_count a)))
 
 -- the element at an index of whatever is by position
 abbrev pub view_at : Formula → View → View
@@ -98,6 +103,24 @@ dividend e = e
 abbrev pub cell_in_rows : (row length column : Formula) → Formula
 cell_in_rows i m j = if are_parts i m j then dividend i else Binary Add (Binary Mul i m) j
 
+-- the number of a row of this length, where its first cell has this number: where that is written
+-- as the row's index times the length, the index
+abbrev pub row_number : (index length first : Formula) → Formula
+row_number i m f =
+    if same_formula f (Binary Add (Binary Mul i m) (Number 0)) then i else Binary Div f m
+
+-- a row by its first cell
+abbrev pub row_sign : (index length : Formula) → Sign → Sign
+row_sign i m (Read a f) = Read a (row_number i m f)
+row_sign i m s = s
+
+-- the rows of this length of what is by cells. It is asked by a row's index alone for a vector's
+-- offset: of rows as long as a vector is
+abbrev pub view_of_rows : Formula → View → View
+view_of_rows m x cs (i ∷ []) = row_sign i m (x cs (cell_in_rows i m (Number 0) ∷ []))
+view_of_rows m x cs (i ∷ j ∷ p) = x cs (cell_in_rows i m j ∷ p)
+view_of_rows m x cs [] = x cs []
+
 -- lengths are spelled so
 module _ {A : Type 0} (spell : A → Formula) where
   -- the indices in the operand of indices in the result
@@ -119,6 +142,17 @@ module _ {A : Type 0} (spell : A → Formula) where
   result_indices Transpose p = operand_indices Transpose p
   result_indices (Reverse n) p = operand_indices (Reverse n) p
   result_indices _ p = p
+
+  -- what is read through a layout. At fewer indices than a scalar has a view gives the number of a
+  -- whole value among those of its size, as a vector's offset is
+  abbrev pub reshaped_view : Layout A → View → View
+  reshaped_view (Split m) x = view_of_rows (spell m) x
+  reshaped_view y x = λ cs is. x cs (operand_indices y is)
+
+  -- where the operand of a layout goes, where the result goes there
+  abbrev pub rewritten_view : Layout A → View → View
+  rewritten_view (Join m) w = view_of_rows (spell m) w
+  rewritten_view y w = λ cs is. w cs (result_indices y is)
 
   -- the number in row-major order below an index so far
   abbrev pub index_from : Formula → Shape A → List Formula → Formula

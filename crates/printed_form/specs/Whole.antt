@@ -9,14 +9,14 @@ use Rattle.lift_ir.specs.Layouts.{result_position, IsInvertible}
 use Rattle.lift_ir.specs.Terms.{Global, GlobalRows, PrivateMemory, Term, Reshape, LetArray, Map, push, HasType, no_type}
 use Rattle.lift_ir.specs.Owner.{is_in_rows}
 use Rattle.lift_ir.specs.Scalars.{Scalars, at_index}
-use Rattle.printed_form.specs.Counts.{load_count, variable_count, private_count, copy_lengths}
+use Rattle.printed_form.specs.Counts.{Count, more, no_variables, load_count, variable_count, private_count, copy_lengths}
 use Rattle.printed_form.specs.Marks.{Mark, Nowhere, Spot, Marks, laid_in, loaded_marks}
 use Rattle.printed_form.specs.Form.{argument_marks, IsLoaded, IsLoop, IsArgumentWork, IsWritten}
 
 -- a map along a row of the launch, through layouts, as this item runs it in loops with these
 -- variables
 abbrev pub IsAlongRow : {A : Type 0} → Launch → (item : ℕ) → (ℕ → Marks) → (A → ℕ) → List ℕ
-    → (ℕ → Marks) → (a n : ℕ) → Term A → Marks → (code rest : Code) → Type 0
+    → (ℕ → Marks) → (a : ℕ) → (n : Count) → Term A → Marks → (code rest : Code) → Type 0
 IsAlongRow l item ins num ts env a n (Reshape y t) w code rest =
     IsInvertible y
     × IsAlongRow l item ins num ts env a n t (λ cs q. w cs (result_position num y q)) code rest
@@ -24,20 +24,20 @@ IsAlongRow l item ins num ts env a n (Map Global len loads xs b) w code rest =
     (mid : Code) × IsArgumentWork l item ins num ts env a n xs code mid
     × IsLoop l item ins Global (num len)
     (λ i body. (inner : Code)
-    × IsLoaded l item ins (ts ++ i ∷ []) loads (at_index i (argument_marks l ins num env a xs)) (n
-    + variable_count xs) body inner
+    × IsLoaded l item ins (ts ++ i ∷ []) loads (at_index i (argument_marks l ins num env a xs))
+    (more n (variable_count xs)) body inner
     × IsWritten l item ins num (ts ++ i ∷ [])
     (push
-    (loaded_marks loads (at_index i (argument_marks l ins num env a xs)) (n
-    + variable_count xs)) env) (a + private_count xs)
-    (n + variable_count xs + load_count loads) b (at_index i w) inner End)
+    (loaded_marks loads (at_index i (argument_marks l ins num env a xs))
+    (more n (variable_count xs))) env) (a + private_count xs)
+    (more (more n (variable_count xs)) (load_count loads)) b (at_index i w) inner End)
     mid rest
 IsAlongRow l item ins num ts env a n _ w code rest = ⊥
 
 -- a map over the launch, along its one row or over its rows, through layouts and lets of arrays, as
 -- this item runs it
 abbrev pub IsOverLaunch : {A : Type 0} → Launch → (item : ℕ) → (ℕ → Marks) → (A → ℕ) → (ℕ → Marks)
-    → (a n : ℕ) → Term A → Marks → (code rest : Code) → Type 0
+    → (a : ℕ) → (n : Count) → Term A → Marks → (code rest : Code) → Type 0
 IsOverLaunch l item ins num env a n (Reshape y t) w code rest =
     IsInvertible y
     × IsOverLaunch l item ins num env a n t (λ cs q. w cs (result_position num y q)) code rest
@@ -45,20 +45,20 @@ IsOverLaunch l item ins num env a n (LetArray v b) w code rest =
     (mid : Code) × IsArgumentWork l item ins num [] env a n v code mid
     × IsOverLaunch l item ins num (push (argument_marks l ins num env a v) env)
     (a + private_count v)
-    (n + variable_count v) b w mid rest
+    (more n (variable_count v)) b w mid rest
 IsOverLaunch l item ins num env a n (Map Global len loads xs b) w code rest =
     IsAlongRow l item ins num [] env a n (Map Global len loads xs b) w code rest
 IsOverLaunch l item ins num env a n (Map GlobalRows len loads xs b) w code rest =
     (mid : Code) × IsArgumentWork l item ins num [] env a n xs code mid
     × IsLoop l item ins GlobalRows (num len)
     (λ i body. (inner : Code)
-    × IsLoaded l item ins ([] ++ i ∷ []) loads (at_index i (argument_marks l ins num env a xs)) (n
-    + variable_count xs) body inner
+    × IsLoaded l item ins ([] ++ i ∷ []) loads (at_index i (argument_marks l ins num env a xs))
+    (more n (variable_count xs)) body inner
     × IsAlongRow l item ins num ([] ++ i ∷ [])
     (push
-    (loaded_marks loads (at_index i (argument_marks l ins num env a xs)) (n
-    + variable_count xs)) env) (a + private_count xs)
-    (n + variable_count xs + load_count loads) b (at_index i w) inner End)
+    (loaded_marks loads (at_index i (argument_marks l ins num env a xs))
+    (more n (variable_count xs))) env) (a + private_count xs)
+    (more (more n (variable_count xs)) (load_count loads)) b (at_index i w) inner End)
     mid rest
 IsOverLaunch l item ins num env a n _ w code rest = ⊥
 
@@ -74,16 +74,18 @@ output_marks ty = laid_in Output 0 ty
 -- is, or by each at its own turns of a map over the launch
 abbrev pub IsCode : {A : Type 0} → Launch → (ℕ → Marks) → (A → ℕ) → Term A → Ty → Code → Type 0
 IsCode l ins num t ty code =
-    ((item_count l ≡ 1) × IsWritten l 0 ins num [] no_marks 0 0 t (output_marks ty) code End)
+    ((item_count l ≡ 1)
+    × IsWritten l 0 ins num [] no_marks 0 no_variables t (output_marks ty) code End)
     ⊎ ((item : ℕ) → item < item_count l
-    → IsOverLaunch l item ins num no_marks 0 0 t (output_marks ty) code End)
+    → IsOverLaunch l item ins num no_marks 0 no_variables t (output_marks ty) code End)
 
 -- an input's scalar as the cells hold it
 abbrev pub IsGiven : Cells → Mark → ℕ → Type 0
 IsGiven c (Spot (Input a) i) v = (i < length (row c.ins a)) × (slice_index (row c.ins a) i ≡ v)
 IsGiven c _ v = ⊥
 
--- but for its code the kernel is one for the term of this type, at this launch and with these cells:
+-- but for its code the kernel is one for the term of this type, at
+-- this launch and with these cells:
 -- the launch is one row but for a term with a map over rows on top; the term has the type, the
 -- kernel declares its variables and its private arrays, and the cells are as many as the value's,
 -- with the inputs' scalars where these stand
@@ -95,7 +97,8 @@ pub record IsMadeFor {A : Type 0} (l : Launch) (num : A → ℕ) (src : ℕ → 
   pub few : item_count l < 2 ^ 31
   pub typed : HasType num src no_type t ty
   pub flat_type : IsFlat ty
-  pub variables : k.variables ≡ variable_count t
+  pub variables : k.variables ≡ (variable_count t).words
+  pub vectors : k.vectors ≡ (variable_count t).fours
   pub privates : k.privates ≡ copy_lengths PrivateMemory t
   pub outputs : map length c.outs ≡ replicate (width ty) (size ty)
   pub inputs : (v : ℕ) (cs : List Bool) (q : List ℕ) → IsPosition (src v) cs q

@@ -10,6 +10,7 @@ ghost use Rattle.printed_form.specs.Headline.{EveryRunKeeps};
 ghost use Rattle.printed_form.specs.Theorem.{PrintedKernelsKeep};
 ghost use Rattle.printed_form.specs.Alike.{PrintedKernelsAreAlike};
 ghost use Rattle.printed_form.specs.PrinterLaw.{PrinterPrints};
+ghost use Rattle.printed_form.specs.VectorIndices.{VectorsAreAtTheirIndices};
 ghost use Rattle.printed_form.specs.Programs.{PrintedProgramsKeep, PrintedProgramsStart, ProgramsArePrinted, PrintedProgramsGoAlike};
 
 /// The headline from one run of each start: where it goes by these histories and leaves what is
@@ -39,6 +40,12 @@ pub fn printed_kernels_are_alike()
 /// What the printer writes for a term is printed for it, at every launch.
 pub fn the_printer_prints()
     ensures { PrinterPrints (List Monomial) }
+{}
+
+/// Over an array that no other layout rearranges a vector is loaded and stored at its index: the
+/// loop's variable alone.
+pub fn vectors_are_at_their_indices()
+    ensures { VectorsAreAtTheirIndices (List Monomial) }
 {}
 
 /// At every admissible launch, on all inputs, every run of a kernel that is printed for a program's

@@ -6,7 +6,7 @@ use Rattle.std.proofs.lemmas.List.{length-map, length-replicate}
 use Rattle.std.proofs.lemmas.Grind.{same_number_lists}
 use Rattle.kernel_tree.specs.Device.{row}
 use Rattle.lift_tree.specs.Launches.{lists_of}
-use Rattle.lift_tree.specs.Types.{PlainTy, U32, PairOf, ArrayOf, HoldsElements, IsElement}
+use Rattle.lift_tree.specs.Types.{PlainTy, U32, U32x4, PairOf, ArrayOf}
 use Rattle.lift_tree.specs.Limits.{components}
 use Rattle.lift_tree.specs.Values.{Value, list_of}
 use Rattle.value_lists.specs.Laws.{ComponentsAreCounted}
@@ -14,18 +14,9 @@ use Rattle.value_lists.specs.Lists.{IsSmall, length_at, width}
 
 -- ---- facts that a truncated fact gives
 
-element_once : (a : PlainTy) → IsProp (IsElement a)
-element_once U32 = Prim.hlevel props
-element_once (PairOf a b) = let x = element_once a in let y = element_once b in Prim.hlevel (x, y, props)
-element_once (ArrayOf a n) = Prim.hlevel props
-
-pub elements_once : (a : PlainTy) → IsProp (HoldsElements a)
-elements_once U32 = Prim.hlevel props
-elements_once (PairOf a b) = let x = element_once a in let y = element_once b in Prim.hlevel (x, y, props)
-elements_once (ArrayOf a n) = elements_once a
-
 pub small_once : (ys : List ℕ) (count : ℕ) (a : PlainTy) → IsProp (IsSmall ys count a)
 small_once ys count U32 = Prim.hlevel props
+small_once ys count U32x4 = Prim.hlevel props
 small_once ys count (PairOf a b) = let x = small_once ys count a in let y = small_once ys count b in Prim.hlevel (x, y, props)
 small_once ys count (ArrayOf a n) = let x = small_once ys (count * length_at ys n) a in Prim.hlevel (x, props)
 

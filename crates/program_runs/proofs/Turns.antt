@@ -1,5 +1,5 @@
 -- The runs of a sequence so far, and what is known of the next.
-use Rattle.std.proofs.Common.{◌≡◌, ◌∙◌, ◌+◌, ◌<◌, ◌≤◌, ◌^◌, ℕ, zero, suc, true, List, [], ◌∷◌, ◌++◌, length, map, drop, take, Option, Some, refl, sym, ap, arith, subst, append-nil}
+use Rattle.std.proofs.Common.{◌≡◌, ◌∙◌, ◌+◌, ◌<◌, ◌≤◌, ℕ, zero, suc, true, List, [], ◌∷◌, ◌++◌, length, map, drop, take, Option, Some, refl, sym, ap, arith, subst, append-nil}
 use Rattle.std.specs.Prelude.{get_or, slice_get, sum_by}
 use Rattle.std.specs.List.{enumerate_from}
 use Rattle.std.proofs.lemmas.List.{drop_all, length-map, map-append, take_all}
@@ -20,7 +20,7 @@ use Rattle.lift_tree.specs.Lists.{Every}
 use Rattle.lift_tree.specs.Meaning.{World}
 use Rattle.lift_tree.proofs.EveryAt.{every_at}
 use Rattle.lift_tree.specs.Programs.{PlainProgram}
-use Rattle.lift_tree.specs.Types.{HasType, HoldsElements, PlainTy}
+use Rattle.lift_tree.specs.Types.{HasType, PlainTy}
 use Rattle.lift_tree.specs.Values.{Value}
 use Rattle.lift_tree.specs.Typing.{ValuesHaveTypes, declared_by}
 use Rattle.size_arith.specs.declared.names.Name.{Name}
@@ -29,8 +29,8 @@ use Rattle.lowered_tree.specs.Kinds.{asks_of}
 use Rattle.ndrange_device.specs.Outcomes.{EndsUnder, FaultsUnder, capped}
 use Rattle.sequence_runs.specs.Runs.{Stage}
 use Rattle.value_lists.specs.Laws.{ListsHoldOneValue}
-use Rattle.value_lists.specs.Lists.{IsSmall, value_in, width}
-use Rattle.program_runs.proofs.LaidOut.{elements_once, small_once}
+use Rattle.value_lists.specs.Lists.{IsSmall, value_in}
+use Rattle.program_runs.proofs.LaidOut.{small_once}
 use Rattle.launch_file.specs.ResultLine.{result_line}
 use Rattle.launch_file.specs.Stages.{Count, GivenInOrder}
 use Rattle.program_source.specs.Program.{source_value}
@@ -140,8 +140,6 @@ module _ (p : PlainProgram) (output : PlainTy) (outlines : List Outline) (text :
 
   -- what is known of the next
   pub record Next (n : ℕ) (x : Kernel) (o : Outline) (c : Count) (ins left : List (List ℕ)) (events releases : ℕ) : Type 0 where
-    pub elements : HoldsElements o.output
-    pub few : width o.output < 2 ^ 32
     pub small : IsSmall g.shared.bases 1 o.output
     pub starts : MayStart x (launch_at g.shared.sizes c) (begun_from (ins ++ left) g.shared.bases o.output)
     pub clean : (kind : FaultKind) (event item : ℕ) (cell : Option shown.Cell) → FaultsUnder g.shared.schedule x (launch_at g.shared.sizes c) (begun_from (ins ++ left) g.shared.bases o.output) kind event item cell → ⊥
@@ -289,8 +287,6 @@ module _ (p : PlainProgram) (output : PlainTy) (outlines : List Outline) (text :
 
         pub next : Next n x o c ins left events releases
         next = record {
-          elements = ∥∥₁_elim bars (elements_once o.output) (λ t. (laid_out t).elements);
-          few = ∥∥₁_elim bars (Prim.hlevel props) (λ t. (laid_out t).few);
           small = ∥∥₁_elim bars (small_once g.shared.bases 1 o.output) (λ t. (laid_out t).small g.shared.bases its.sizes);
           starts = next_starts;
           clean = next_is_clean;

@@ -1,13 +1,13 @@
 //! What memory begins with.
-ghost use Rattle.std.specs.Prelude.{◌≡◌, ◌<◌, ◌^◌, ◌++◌, List, IfOk, OnOk, map};
+ghost use Rattle.std.specs.Prelude.{◌≡◌, ◌++◌, List, IfOk, OnOk, map};
 ghost use Rattle.size_arith.specs.declared.names.Name.{Name};
 ghost use Rattle.lift_tree.specs.Launches.{buffers_of};
 ghost use Rattle.lift_tree.specs.Programs.{input_of, program_of};
-ghost use Rattle.lift_tree.specs.Types.{HoldsElements, ty_of};
+ghost use Rattle.lift_tree.specs.Types.{ty_of};
 ghost use Rattle.lift_tree.specs.Typing.{declared_by};
 ghost use Rattle.lift_tree.specs.Values.{value_of};
 ghost use Rattle.lift_tree.specs.WorkedOut.{worked_out};
-ghost use Rattle.value_lists.specs.Lists.{IsSmall, width};
+ghost use Rattle.value_lists.specs.Lists.{IsSmall};
 ghost use Rattle.launch_file.specs.LaunchFile.{given_by};
 ghost use Rattle.lift_tree.specs.FixedSizes.{asked};
 ghost use Rattle.program_runs.specs.Runs.{IsAdmissibleFor, begun, world_given};
@@ -93,9 +93,7 @@ pub fn begun_from(
     output: &Ty,
     sizes: &Sizes,
 ) -> Result<Cells, AllocError>
-    requires elements { HoldsElements (ty_of output.now) }
-    requires small { IsSmall sizes.now 1 (ty_of output.now) }
-    requires few { width (ty_of output.now) < 2 ^ 32 }
+    requires { IsSmall sizes.now 1 (ty_of output.now) }
     ensures { IfOk result (λ cells. cells
         ≡ begun_from (map (λ l. l.items) inputs.now) sizes.now (ty_of output.now)) }
 {

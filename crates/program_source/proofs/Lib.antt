@@ -2,6 +2,7 @@ pub mod FewNodes
 pub mod Low
 pub mod Once
 pub mod Proper
+pub mod NoVectors
 pub mod Sources
 pub mod Stages
 pub mod TermsMade

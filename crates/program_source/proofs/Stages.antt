@@ -19,9 +19,8 @@ use Rattle.strategy_script.specs.declared.script.ScriptNo.TheVariants as scripts
 use Rattle.strategy_script.specs.Scripts.{PlainScript}
 use Rattle.fault_lines.specs.Refusal.{program_refused, script_refused, step_refused, typing_refused}
 use Rattle.fault_lines.specs.declared.refusal.Refusal.{Refusal}
-use Rattle.fault_lines.specs.declared.refusal.Refusal.TheVariants as told
 use Rattle.program_source.specs.Program.{IsRead, OnProgram, StopsFor, TypesOf}
-use Rattle.stages.specs.Stages.{As, Then}
+use Rattle.stages.specs.Stages.{Then}
 use Rattle.program_source.specs.Terms.{TermsOf, source_of}
 
 -- ---- the program's text

@@ -1,8 +1,7 @@
 -- The terms of a program and a script.
-use Rattle.std.proofs.Common.{Bool, true, false, ◌≡◌, ◌⊎◌, ◌∙◌, ◌+◌, ◌<◌, ◌≤◌, take, get_or, ℕ, List, [], ◌∷◌, ◌++◌, length, map, Ok, Err, Result, refl, sym, ap, subst, inl, inr, append_assoc, append-nil, arith}
-use Rattle.std.specs.Prelude.{codes, if◌then◌else◌, nat_lt}
+use Rattle.std.proofs.Common.{Bool, true, false, ◌≡◌, ◌⊎◌, ◌∙◌, ◌+◌, ◌≤◌, ℕ, List, [], ◌∷◌, ◌++◌, map, Ok, Err, Result, refl, sym, ap, subst, inl, inr, arith}
+use Rattle.std.specs.Prelude.{if◌then◌else◌, nat_lt}
 use Rattle.std.proofs.lemmas.Bool.{ltb-false}
-use Rattle.std.proofs.lemmas.List.{take_more}
 use Rattle.lift_tree.specs.Annotations.{Annotation, IsTyped, annotation_of, type_in}
 use Rattle.lift_tree.specs.Belonging.{IsProper}
 use Rattle.lift_tree.specs.Limits.{IsWithinLimits}
@@ -18,6 +17,7 @@ use Rattle.pattern_types.specs.Judged.{and_then, counted, program_judged}
 use Rattle.pattern_types.specs.Judgement.{IsJudgement, TypesAreJudged}
 use Rattle.pattern_types.specs.declared.refusal.TypeRefusal.{TypeRefusal}
 use Rattle.rewriting.specs.Keeps.{Keeps}
+use Rattle.strategy_script.specs.ScriptLines.{AreLines}
 use Rattle.strategy_script.specs.Steps.{IsAfter, IsLastTerm as IsLast, State, around_whole, at_most, at_step, limited, rewritten, state_of, stepped, terms_from, terms_of, with_types}
 use Rattle.strategy_script.specs.declared.faults.Fault.{Fault}
 use Rattle.strategy_script.specs.declared.faults.Fault.TheVariants.{Passes}
@@ -25,10 +25,9 @@ use Rattle.strategy_script.specs.declared.faults.StepLimit.TheVariants.{Depth, N
 use Rattle.strategy_script.specs.declared.faults.StepNo.{StepNo}
 use Rattle.strategy_script.specs.Scripts.{PlainScript}
 use Rattle.strategy_script.specs.declared.script.Step.{Step}
-use Rattle.term_texts.specs.TermText.{text_of}
 use Rattle.program_source.specs.Program.{IsRead, ProgramsAreLow}
-use Rattle.program_source.specs.SourceTerms.{AreSourceTerms, IsBegun, IsLastTerm, IsSourceTerm, typed_line, typed_lines}
-use Rattle.program_source.specs.StepsText.{IsStepsText, term_lines}
+use Rattle.program_source.specs.SourceTerms.{AreSourceTerms, IsBegun, IsLastTerm, IsSourceTerm}
+use Rattle.program_source.specs.StepsText.{IsStepsText}
 use Rattle.program_source.specs.Terms as of_terms
 use Rattle.program_source.specs.Terms.{TermsOf, source_of}
 use Rattle.program_source.proofs.FewNodes.{few_inputs}
@@ -217,38 +216,19 @@ last_is program script source t read law lows begun last after =
 
 -- ---- lines
 
-lines_are : (p : PlainProgram) (ts : List Typed) → Every (IsSourceTerm p) ts → typed_lines ts ≡ term_lines p (map state_of ts)
-lines_are p [] h = refl
-lines_are p (t ∷ ts) h =
-    ap (λ (q : PlainProgram). (text_of q (tree_of t.term) ++ codes "\n") ++ typed_lines ts) h.0.program
-    ∙ ap (λ (w : List ℕ). (text_of p (tree_of t.term) ++ codes "\n") ++ w) (lines_are p ts h.1)
-
-each_keeps : (p : PlainProgram) (ts : List Typed) → Every (IsSourceTerm p) ts → Every (λ (s : State). Keeps (declared_by p) [] p.body s.tree) (map state_of ts)
-each_keeps p [] h = tt
-each_keeps p (t ∷ ts) h = (h.0.keeps, each_keeps p ts h.1)
-
-pub steps_text_is : (program script text : List ℕ) (terms : List Typed) → AreSourceTerms program script terms → text ≡ typed_lines terms → IsStepsText program script text
-steps_text_is program script text terms are written =
-    let p = are.source in
-    let first = first_is p script (map state_of terms) are.made in
+pub steps_text_is : (program script text : List ℕ) (t : Typed) (read : PlainScript) → IsBegun program script t read → AreLines t read.steps text → IsStepsText program script text
+steps_text_is program script text t read begun lines =
+    let p = program_of t.program in
+    let made : TermsOf p script (Ok lines.terms) = (annotation_of t.types, begun.judged, (read, (begun.is, begun.few), source_made t read.steps (Ok lines.terms) begun.whole lines.made)) in
+    let first = first_is p script lines.terms made in
     record {
       source = p;
-      terms = map state_of terms;
-      read = are.read;
-      made = are.made;
-      types = are.made.0;
+      terms = lines.terms;
+      read = begun.read;
+      made = made;
+      types = made.0;
       rest = first.0;
       first = first.1;
-      keep = each_keeps p terms are.each;
-      written = written ∙ lines_are p terms are.each;
+      keep = subst (λ (b : Tree). Every (λ (s : State). Keeps (declared_by p) [] b s.tree) lines.terms) begun.whole lines.keep;
+      written = lines.written;
     }
-
--- the lines of one term more
-pub more_lines : (ts : List Typed) (t : Typed) → typed_lines (ts ++ t ∷ []) ≡ typed_lines ts ++ typed_line t
-more_lines [] t = append-nil (typed_line t)
-more_lines (u ∷ ts) t = ap (λ (w : List ℕ). typed_line u ++ w) (more_lines ts t) ∙ sym (append_assoc (typed_line u) (typed_lines ts) (typed_line t))
-
--- behind the lines of the first terms stands that of the next
-pub one_line_more : (ts : List Typed) (i : ℕ) (t : Typed) (text : List ℕ) → t ≡ get_or ts i t → i < length ts → text ≡ typed_lines (take i ts) → text ++ typed_line t ≡ typed_lines (take (i + 1) ts)
-one_line_more ts i t text is h so_far =
-    ap (λ (w : List ℕ). w ++ typed_line t) so_far ∙ sym (more_lines (take i ts) t) ∙ ap (λ (u : Typed). typed_lines (take i ts ++ u ∷ [])) is ∙ ap typed_lines (sym (take_more ts i t h))

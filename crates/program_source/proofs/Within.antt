@@ -10,13 +10,14 @@ use Rattle.lift_tree.proofs.Copies.{copies_arrays_however_typed, copying}
 use Rattle.lift_reader.specs.TextTerms.{BodiesAreTextTerms}
 use Rattle.lowered_tree.specs.Whole.{IsTypedWithin}
 use Rattle.program_source.specs.SourceTerms.{IsLastTerm}
+use Rattle.program_source.proofs.NoVectors.{inputs_have_none}
 use Rattle.program_source.proofs.Sources.{text_copies}
 
 last_copies : BodiesAreTextTerms → (program script : List ℕ) (t : Typed) → IsLastTerm program script t → CopiesArrays (tree_of t.term) (annotation_of t.types)
 last_copies law program script t last =
     let p = program_of t.program in
     let d = declared_by p in
-    let source = text_copies d (length p.sizes) (length p.inputs) 0 1 [] p.body (type_in (annotation_of t.types)) (law program p last.read.is) last.output.typed in
+    let source = text_copies d (inputs_have_none d p.inputs) (length p.sizes) (length p.inputs) 0 1 [] tt p.body (type_in (annotation_of t.types)) (law program p last.read.is) last.output.typed in
     copies_arrays_however_typed d [] (tree_of t.term) (annotation_of t.types) (last.term.keeps.copies (copying d [] p.body (type_in (annotation_of t.types)) source)) last.term.typed.nodes
 
 pub typed_within : BodiesAreTextTerms → (program script : List ℕ) (t : Typed) → IsLastTerm program script t → IsTypedWithin (program_of t.program) (tree_of t.term) (annotation_of t.types)

@@ -1,5 +1,5 @@
 -- The terms of a program and a script as the code has them.
-use Rattle.std.specs.Prelude.{◌≡◌, ◌≤◌, ℕ, List, [], ◌∷◌, ◌++◌, codes, length, map, Ok}
+use Rattle.std.specs.Prelude.{◌≡◌, ◌≤◌, ℕ, List, [], length, map, Ok}
 use Rattle.lift_tree.specs.Annotations.{IsTyped, annotation_of, type_in}
 use Rattle.lift_tree.specs.Belonging.{IsProper}
 use Rattle.lift_tree.specs.Limits.{IsWithinLimits}
@@ -13,7 +13,6 @@ use Rattle.rewriting.specs.Keeps.{Keeps}
 use Rattle.strategy_script.specs.ScriptText.{IsScript}
 use Rattle.strategy_script.specs.Steps.{IsReady, State, state_of}
 use Rattle.strategy_script.specs.Scripts.{PlainScript}
-use Rattle.term_texts.specs.TermText.{text_of}
 use Rattle.program_source.specs.Program.{IsRead}
 use Rattle.program_source.specs.Terms.{IsLast, TermsOf}
 
@@ -55,12 +54,3 @@ pub record IsLastTerm (program script : List ℕ) (t : Typed) : Type 0 where
       (type_in (annotation_of t.types))
   pub within : IsWithinLimits (program_of t.program) (tree_of t.term) (annotation_of t.types)
   pub low : height (tree_of t.term) ≤ 256
-
--- a term's text, and LF
-abbrev pub typed_line : Typed → List ℕ
-typed_line t = text_of (program_of t.program) (tree_of t.term) ++ codes "\n"
-
--- the lines of terms, one after another
-abbrev pub typed_lines : List Typed → List ℕ
-typed_lines [] = []
-typed_lines (t ∷ ts) = typed_line t ++ typed_lines ts

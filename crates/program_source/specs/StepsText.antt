@@ -1,19 +1,14 @@
 -- What the steps of a script are written as.
-use Rattle.std.specs.Prelude.{◌≡◌, ◌++◌, ℕ, List, [], ◌∷◌, codes, Ok}
+use Rattle.std.specs.Prelude.{◌≡◌, ℕ, List, [], ◌∷◌, Ok}
 use Rattle.lift_tree.specs.Annotations.{Annotation}
 use Rattle.lift_tree.specs.Lists.{Every}
 use Rattle.lift_tree.specs.Programs.{PlainProgram}
 use Rattle.lift_tree.specs.Typing.{declared_by}
 use Rattle.rewriting.specs.Keeps.{Keeps}
+use Rattle.strategy_script.specs.ScriptLines.{term_lines}
 use Rattle.strategy_script.specs.Steps.{State}
-use Rattle.term_texts.specs.TermText.{text_of}
 use Rattle.program_source.specs.Program.{IsRead}
 use Rattle.program_source.specs.Terms.{TermsOf, source_of}
-
--- each term's text, and LF
-abbrev pub term_lines : PlainProgram → List State → List ℕ
-term_lines p [] = []
-term_lines p (s ∷ ss) = (text_of p s.tree ++ codes "\n") ++ term_lines p ss
 
 -- The text is a line for each term that the steps make of the program: the first is the program's
 -- own, and each has its type, and its value at all admissible sizes and inputs.

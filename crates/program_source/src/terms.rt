@@ -1,5 +1,5 @@
 //! The terms that the steps of a script make of a program, and their lines.
-ghost use Rattle.std.specs.Prelude.{◌≡◌, ◌++◌, IfErr, IfOk, OnOk};
+ghost use Rattle.std.specs.Prelude.{◌≡◌, IfErr, IfOk};
 ghost use Rattle.lift_tree.specs.Annotations.{annotation_of};
 ghost use Rattle.lift_tree.specs.Programs.{program_of};
 ghost use Rattle.lift_tree.specs.Tree.{tree_of};
@@ -9,8 +9,6 @@ ghost use Rattle.program_source.specs.SourceTerms.{
   AreSourceTerms,
   IsBegun,
   IsLastTerm,
-  typed_line,
-  typed_lines,
 };
 ghost use Rattle.program_source.specs.StepsText.{IsStepsText};
 ghost use Rattle.program_source.specs.Terms.{TermsOf};
@@ -25,9 +23,8 @@ use lift_tree::laws::typed_nodes_type_the_term;
 use lift_tree::local_size::LocalSize;
 use lift_tree::typed::Typed;
 use pattern_types::laws::types_are_judged;
-use std::alloc::{AllocError, Global};
-use strategy_script::{Script, read_script, run_script};
-use term_texts::term_text;
+use std::alloc::Global;
+use strategy_script::{Script, read_script, run_script, script_lines};
 
 /// The last of a program's terms along a script, and the local size of all
 /// launches where the script fixes it.
@@ -85,27 +82,6 @@ pub fn last_term(alloc: Global, program: &[u8], script: &[u8]) -> Result<LastTer
     })
 }
 
-// Writes a term on a line behind the text.
-fn push_line(alloc: Global, text: &mut Vec<u8>, typed: &Typed) -> Result<(), AllocError>
-    ensures { OnOk result (text.new.items ≡ text.old.items ++ typed_line typed.now) }
-{
-    let line = term_text(alloc, &typed.term, &typed.program)?;
-    text.extend_from_slice(line.as_slice())?;
-    text.push(b'\n')?;
-    Ok(())
-}
-
-// Each term on a line.
-fn terms_text(alloc: Global, terms: &[Typed]) -> Result<Vec<u8>, AllocError>
-    ensures { IfOk result (λ text. text.items ≡ typed_lines terms.now) }
-{
-    let mut text = Vec::new(alloc);
-    for typed in terms {
-        push_line(alloc, &mut text, typed)?;
-    }
-    Ok(text)
-}
-
 /// A line for each term that the steps of a script make of a program, its own first. Each term has
 /// the program's type, and its value at all admissible sizes and inputs.
 pub fn steps_text(alloc: Global, program: &[u8], script: &[u8]) -> Result<Vec<u8>, Refusal>
@@ -115,6 +91,6 @@ pub fn steps_text(alloc: Global, program: &[u8], script: &[u8]) -> Result<Vec<u8
     ensures exact { IsRefusedFor (OnProgram program.now (λ p. TermsOf p script.now)) result }
 {
     sources_end_once();
-    let terms = source_terms(alloc, program, script)?;
-    Ok(terms_text(alloc, terms.as_slice())?)
+    let (source, script) = begin(alloc, program, script)?;
+    Ok(script_lines(alloc, source, &script)?)
 }

@@ -108,11 +108,11 @@ module _ (d : Declared) (declared : IsDeclared d) where
   child_typed m g (Two b n l) (Binary f t u) c s zero k e q0 a h =
       let p : c ≡ t = cc in
       let q = subst (λ z. Turns m d g z s) p q0 in
-      (h.0, h.1, q h.0 h.2, h.3, h.4)
+      (h.0, h.1, q h.0 h.2, h.3, h.4, h.5)
   child_typed m g (Two b n l) (Binary f t u) c s (suc zero) k e q0 a h =
       let p : c ≡ u = cc in
       let q = subst (λ z. Turns m d g z s) p q0 in
-      (h.0, h.1, h.2, q h.1 h.3, h.4)
+      (h.0, h.1, h.2, q h.1 h.3, h.4, h.5)
   child_typed m g (Two b n l) (Binary f t u) c s (suc (suc i)) k e q0 a h = absurd (cc)
   child_typed m g (Three b n l r) (Select t u v) c s zero k e q0 a h =
       let p : c ≡ t = cc in

@@ -5,7 +5,7 @@ use Rattle.size_arith.specs.declared.names.Name.{Name}
 use Rattle.lift_tree.specs.declared.typed.Context.{Context}
 use Rattle.lift_tree.specs.Lists.{Every}
 use Rattle.lift_tree.specs.Tree.{Tree, Let, Map, Fold}
-use Rattle.lift_tree.specs.Types.{PlainTy, U32, PairOf, ArrayOf, IsFormed, ty_of}
+use Rattle.lift_tree.specs.Types.{PlainTy, U32, U32x4, PairOf, ArrayOf, IsFormed, ty_of}
 use Rattle.lift_tree.specs.Typing.{Declared, IsDeclared}
 use Rattle.lift_tree.specs.Annotations.{Annotation, One, Two, Three, annotation_of, type_in, Annotates}
 use Rattle.lift_tree.specs.Places.{child_at}
@@ -37,6 +37,7 @@ IsTypedIn a t = (d : Declared) × IsAround d a t
 -- ---- what stands around the nodes below
 abbrev pub element_of : PlainTy → PlainTy
 element_of U32 = U32
+element_of U32x4 = U32
 element_of (PairOf a b) = U32
 element_of (ArrayOf a n) = a
 

@@ -17,13 +17,15 @@ pub enum Condition {
     Divides,
     /// A length is shown to be large enough.
     Length,
+    /// A map's body acts lane by lane on an array of numbers.
+    Lanes,
     /// Two lengths are the same.
     Same,
     /// A term doesn't name a binder.
     Mentions,
     /// The term is an array.
     Array,
-    /// The pairs of the term's type hold elements only.
+    /// The pairs of the term's type hold numbers only.
     Whole,
     /// No binder is around the term.
     Closed,
@@ -38,6 +40,7 @@ impl Condition {
             Condition::Positive => "positive",
             Condition::Divides => "divides",
             Condition::Length => "length",
+            Condition::Lanes => "lanes",
             Condition::Same => "same",
             Condition::Mentions => "mentions",
             Condition::Array => "array",

@@ -18,7 +18,7 @@ use Rattle.lift_tree.specs.declared.term.UnaryForm.TheVariants.{Layout, Pad}
 use Rattle.lift_tree.specs.Tree.{Tree, Variable, Unary, Let, Map, Fold, tree_of}
 use Rattle.lift_tree.specs.Renumbering.{substitute, mentions}
 use Rattle.lift_tree.specs.WorkedOut.{product_of}
-use Rattle.lift_tree.specs.Types.{PlainTy, U32, PairOf, ArrayOf, is_array}
+use Rattle.lift_tree.specs.Types.{PlainTy, U32, U32x4, PairOf, ArrayOf, is_array}
 use Rattle.lift_tree.specs.Typing.{Declared, Types, UnaryRow}
 use Rattle.lift_tree.specs.Annotations.{Annotation, Leaf, One, Two, Three, Annotates, type_in}
 use Rattle.lift_tree.proofs.Annotated.{annotated_is_typed}
@@ -72,6 +72,7 @@ copy_rule a t u e d h = go (type_in a.types) (whole d a t h) e
   where
     go : (b : PlainTy) → Types d a.binders t b → (if is_array b then Becomes (Map Plain t (Variable 0)) else NoSide Array) ≡ Becomes u → Keeps d a.binders t u
     go U32 ty e = cc
+    go U32x4 ty e = cc
     go (PairOf x y) ty e = cc
     go (ArrayOf x n) ty e = kept d a.binders t (Map Plain t (Variable 0)) u e (copy_keeps d a.binders h.declared h.binders t x n ty)
 
@@ -194,6 +195,7 @@ stride_stride_rule a (Unary (Layout (Stride ks)) (Unary (Layout (Stride ms)) xs)
         → Keeps d a.binders (Unary (Layout (Stride ks)) (Unary (Layout (Stride ms)) xs)) u
     go c ty false m e = cc
     go U32 ty true m e = cc
+    go U32x4 ty true m e = cc
     go (PairOf y z) ty true m e = cc
     go (ArrayOf y n) ty true m e =
         let same = ap (λ z. of_monomial (product_of z (ks ++ ms))) (sym h.names) ∙ (decides_same (of_monomial (product_of a.names (ks ++ ms))) n).0 m in
@@ -209,6 +211,7 @@ stride_layout_rule a (Unary (Layout (Stride fs)) xs) u e p d h = go (type_in a.t
         → (if b then Becomes (Unary (Layout Join) (Unary (Layout Transpose) (Unary (Layout (Split fs)) xs))) else NoSide Length) ≡ Becomes u → Keeps d a.binders (Unary (Layout (Stride fs)) xs) u
     go c ty p false m e = cc
     go U32 ty p true m e = cc
+    go U32x4 ty p true m e = cc
     go (PairOf y z) ty p true m e = cc
     go (ArrayOf y n) ty p true m e =
         let k = product_of a.names fs in

@@ -39,7 +39,7 @@ module _ (m : Demand) (d : Declared) where
   types-shift more k us vs (Number n) a s h = h
   types-shift more k us vs (Input n) a s h = h
   types-shift more k us vs (Unary f t) a s h = (h.0, types-shift more k us vs t h.0 s h.1, h.2, h.3)
-  types-shift more k us vs (Binary f t u) a s h = (h.0, h.1, types-shift more k us vs t h.0 s h.2, types-shift more k us vs u h.1 s h.3, h.4)
+  types-shift more k us vs (Binary f t u) a s h = (h.0, h.1, types-shift more k us vs t h.0 s h.2, types-shift more k us vs u h.1 s h.3, h.4, h.5)
   types-shift more k us vs (Select t u v) a s h = (types-shift more k us vs t U32 s h.0, types-shift more k us vs u U32 s h.1, types-shift more k us vs v U32 s h.2, h.3)
   types-shift more k us vs (Let v b) a s h = (h.0, types-shift more k us vs v h.0 s h.1, types-shift more (suc k) (h.0 ∷ us) (h.0 ∷ vs) b a (sees_under more k h.0 us vs s) h.2)
   types-shift more k us vs (Map o xs b) a s h = (
@@ -67,7 +67,7 @@ module _ (m : Demand) (d : Declared) where
   types-unshift more k us vs (Number n) a s h = h
   types-unshift more k us vs (Input n) a s h = h
   types-unshift more k us vs (Unary f t) a s h = (h.0, types-unshift more k us vs t h.0 s h.1, h.2, h.3)
-  types-unshift more k us vs (Binary f t u) a s h = (h.0, h.1, types-unshift more k us vs t h.0 s h.2, types-unshift more k us vs u h.1 s h.3, h.4)
+  types-unshift more k us vs (Binary f t u) a s h = (h.0, h.1, types-unshift more k us vs t h.0 s h.2, types-unshift more k us vs u h.1 s h.3, h.4, h.5)
   types-unshift more k us vs (Select t u v) a s h = (types-unshift more k us vs t U32 s h.0, types-unshift more k us vs u U32 s h.1, types-unshift more k us vs v U32 s h.2, h.3)
   types-unshift more k us vs (Let v b) a s h = (h.0, types-unshift more k us vs v h.0 s h.1, types-unshift more (suc k) (h.0 ∷ us) (h.0 ∷ vs) b a (sees_under more k h.0 us vs s) h.2)
   types-unshift more k us vs (Map o xs b) a s h = (
@@ -127,7 +127,7 @@ module _ (m : Demand) (d : Declared) where
   types-put k b g s (Number n) a l hs h = h
   types-put k b g s (Input n) a l hs h = h
   types-put k b g s (Unary f t) a l hs h = (h.0, types-put k b g s t h.0 l hs h.1, h.2, h.3)
-  types-put k b g s (Binary f t u) a l hs h = (h.0, h.1, types-put k b g s t h.0 l hs h.2, types-put k b g s u h.1 l hs h.3, h.4)
+  types-put k b g s (Binary f t u) a l hs h = (h.0, h.1, types-put k b g s t h.0 l hs h.2, types-put k b g s u h.1 l hs h.3, h.4, h.5)
   types-put k b g s (Select t u v) a l hs h = (types-put k b g s t U32 l hs h.0, types-put k b g s u U32 l hs h.1, types-put k b g s v U32 l hs h.2, h.3)
   types-put k b g s (Let v t) a l hs h = (h.0, types-put k b g s v h.0 l hs h.1, types-put (suc k) b (h.0 ∷ g) s t a (omega arith) hs h.2)
   types-put k b g s (Map o xs t) a l hs h = (h.0, h.1, h.2, types-put k b g s xs (ArrayOf h.0 h.2) l hs h.3, types-put (suc k) b (h.0 ∷ g) s t h.1 (omega arith) hs h.4, h.5)

@@ -7,7 +7,7 @@ use Rattle.lift_tree.specs.declared.term.UnaryForm.TheVariants.{Layout, Pad}
 use Rattle.lift_tree.specs.declared.term.Term.{Term}
 use Rattle.lift_tree.specs.Renumbering.{mentions}
 use Rattle.size_arith.specs.Polynomial.{IsPoly}
-use Rattle.lift_tree.specs.Types.{PlainTy, U32, PairOf, ArrayOf}
+use Rattle.lift_tree.specs.Types.{PlainTy, U32, U32x4, PairOf, ArrayOf}
 use Rattle.rules_algebra.specs.Layouts.{without}
 use Rattle.lift_tree.specs.Tree.{tree_of, Tree, Variable, Unary, Let, Map, Fold}
 
@@ -89,5 +89,6 @@ IsLowered f o =
 -- an array's length is a polynomial
 abbrev pub HasPolynomial : PlainTy → Type 0
 HasPolynomial U32 = Unit {0}
+HasPolynomial U32x4 = Unit {0}
 HasPolynomial (PairOf a b) = Unit {0}
 HasPolynomial (ArrayOf a n) = IsPoly n

@@ -12,7 +12,7 @@ use Rattle.lift_tree.specs.declared.length.Factor.{Factor}
 use Rattle.lift_tree.specs.declared.term.MapKind.TheVariants.{Plain}
 use Rattle.lift_tree.specs.declared.term.UnaryForm.TheVariants.{Layout}
 use Rattle.lift_tree.specs.Tree.{Tree, Unary, Map}
-use Rattle.lift_tree.specs.Types.{PlainTy, U32, PairOf, ArrayOf}
+use Rattle.lift_tree.specs.Types.{PlainTy, U32, U32x4, PairOf, ArrayOf}
 use Rattle.lift_tree.specs.WorkedOut.{product_of}
 use Rattle.lift_tree.specs.Annotations.{type_in}
 
@@ -41,6 +41,7 @@ step_of _ = []
 -- the product of these factors, of whatever size, is the array's length
 abbrev pub is_length : List Name → List Factor → PlainTy → Bool
 is_length names fs U32 = false
+is_length names fs U32x4 = false
 is_length names fs (PairOf a b) = false
 is_length names fs (ArrayOf a n) = is_same (of_monomial (product_of names fs)) n
 
@@ -74,6 +75,7 @@ is_divided names d n = all_divide d n && is_shown 1 names (quotient d n)
 -- it divides the length of an array so
 abbrev pub has_quotient : List Name → Monomial → PlainTy → Bool
 has_quotient names d U32 = false
+has_quotient names d U32x4 = false
 has_quotient names d (PairOf a b) = false
 has_quotient names d (ArrayOf a n) = is_divided names d n
 

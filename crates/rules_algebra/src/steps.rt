@@ -158,7 +158,7 @@ pub fn is_length(first: &[Factor], second: &[Factor], context: &Context) -> bool
 {
     match context.types.own_type() {
         Ty::Array(_, length) => is_product(context.names.as_slice(), first, second, length),
-        Ty::Number | Ty::Pair(_, _) => false,
+        Ty::Number | Ty::Vector | Ty::Pair(_, _) => false,
     }
 }
 
@@ -193,6 +193,6 @@ pub fn has_quotient(
 {
     match context.types.own_type() {
         Ty::Array(_, length) => is_divided(alloc, &context.names, factors, length),
-        Ty::Number | Ty::Pair(_, _) => Ok(false),
+        Ty::Number | Ty::Vector | Ty::Pair(_, _) => Ok(false),
     }
 }

@@ -1,7 +1,7 @@
 -- The rules keep types, copies and values.
 use Rattle.std.proofs.Common.{◌≡◌, Bool, true, false, List, [], ◌∷◌, refl, sym, ap, ◌∙◌, subst}
 use Rattle.std.proofs.lemmas.Bool.{and_parts}
-use Rattle.std.specs.Prelude.{map, ◌&&◌, if◌then◌else◌, Result, Ok, Err, IfOk}
+use Rattle.std.specs.Prelude.{map, if◌then◌else◌, Result, Ok, Err, IfOk}
 use Rattle.size_arith.specs.declared.poly.Monomial.{Monomial}
 use Rattle.lift_tree.specs.declared.term.MapKind.{MapKind}
 use Rattle.lift_tree.specs.declared.term.MapKind.TheVariants as kind
@@ -15,7 +15,7 @@ use Rattle.lift_tree.specs.Tree.{Tree, tree_of, Unary, Map, Fold}
 use Rattle.lift_tree.specs.Values.{Value, array, members}
 use Rattle.lift_tree.specs.Meaning.{World, meaning, unary_value}
 use Rattle.lift_tree.specs.Copies.{FormCopiesArrays}
-use Rattle.lift_tree.specs.Types.{PlainTy, U32, PairOf, ArrayOf, IsElement, HoldsElements, IsOutput, is_array, is_element, holds_elements}
+use Rattle.lift_tree.specs.Types.{PlainTy, U32, U32x4, PairOf, ArrayOf, AreNumbers, HoldsElements, IsOutput, is_array, are_numbers, holds_elements}
 use Rattle.lift_tree.specs.Typing.{Declared, UnaryRow, Types}
 use Rattle.lift_tree.specs.Annotations.{type_in}
 use Rattle.lift_tree.proofs.Annotated.{annotated_is_typed}
@@ -29,10 +29,12 @@ use Rattle.rewriting.specs.declared.refused.Refused.{Refused}
 use Rattle.rewriting.specs.Answers.{Becomes, NoSide, IsAnswer}
 use Rattle.rewriting.specs.Keeps.{KeepsIn}
 use Rattle.rules_lower.specs.declared.rule.Rule.{Rule}
-use Rattle.rules_lower.specs.declared.rule.Rule.TheVariants.{ToParallel, ToSequential, FoldSequential, Local, Private, LocalCopy, PrivateCopy, Then}
+use Rattle.rules_lower.specs.declared.rule.Rule.TheVariants.{ToParallel, ToSequential, FoldSequential, Local, Private, LocalCopy, PrivateCopy, Then, Vector, VectorScalar}
 use Rattle.rules_lower.specs.Rules.{answer, mapped, folded, copied, if_closed}
 use Rattle.rules_lower.specs.Laws.{LoweringKeeps}
+use Rattle.rules_lower.specs.Vectors.{HasPolynomials}
 use Rattle.rules_lower.proofs.Keeping.{keeping}
+use Rattle.rules_lower.proofs.Fours.{fours_keep, vectors_again_keep}
 
 becomes_of : (t u : Tree) → Becomes t ≡ Becomes u → t ≡ u
 becomes_of t u e = cc
@@ -101,18 +103,21 @@ copy_keeps f is a k t x n e d around =
 on_array_keeps : (a : Around) (t s u : Tree) (ty : PlainTy) → type_in a.types ≡ ty → ((x : PlainTy) (n : List Monomial) → type_in a.types ≡ ArrayOf x n → KeepsIn a t s)
     → (if is_array ty then Becomes s else NoSide Array) ≡ Becomes u → KeepsIn a t u
 on_array_keeps a t s u U32 e k b = absurd (cc)
+on_array_keeps a t s u U32x4 e k b = absurd (cc)
 on_array_keeps a t s u (PairOf x y) e k b = absurd (cc)
 on_array_keeps a t s u (ArrayOf x n) e k b = subst (KeepsIn a t) (becomes_of s u b) (k x n e)
 
 -- ---- what stands for an array that a kernel of its own makes
-element_so : (a : PlainTy) → is_element a ≡ true → IsElement a
-element_so U32 h = tt
-element_so (PairOf a b) h = let p = and_parts (is_element a) (is_element b) h in (element_so a p.0, element_so b p.1)
-element_so (ArrayOf a n) h = absurd (cc)
+numbers_so : (a : PlainTy) → are_numbers a ≡ true → AreNumbers a
+numbers_so U32 h = tt
+numbers_so U32x4 h = absurd (cc)
+numbers_so (PairOf a b) h = let p = and_parts (are_numbers a) (are_numbers b) h in (numbers_so a p.0, numbers_so b p.1)
+numbers_so (ArrayOf a n) h = absurd (cc)
 
 holds_so : (a : PlainTy) → holds_elements a ≡ true → HoldsElements a
 holds_so U32 h = tt
-holds_so (PairOf a b) h = let p = and_parts (is_element a) (is_element b) h in (element_so a p.0, element_so b p.1)
+holds_so U32x4 h = tt
+holds_so (PairOf a b) h = let p = and_parts (are_numbers a) (are_numbers b) h in (numbers_so a p.0, numbers_so b p.1)
 holds_so (ArrayOf a n) h = holds_so a h
 
 closed_becomes : (bs : List PlainTy) (s u : Tree) → if_closed bs (Becomes s) ≡ Becomes u → s ≡ u
@@ -125,22 +130,25 @@ whole_becomes false bs s u e = absurd (cc)
 
 cut_becomes : (ty : PlainTy) (bs : List PlainTy) (s u : Tree) → (if is_array ty then (if holds_elements ty then if_closed bs (Becomes s) else NoSide Whole) else NoSide Array) ≡ Becomes u → IsOutput ty × (s ≡ u)
 cut_becomes U32 bs s u e = absurd (cc)
+cut_becomes U32x4 bs s u e = absurd (cc)
 cut_becomes (PairOf a b) bs s u e = absurd (cc)
 cut_becomes (ArrayOf a n) bs s u e = let o = whole_becomes (holds_elements a) bs s u e in (holds_so a o.0, o.1)
 
 pub lowering_keeps : LoweringKeeps
-lowering_keeps (ToParallel level dimension) a t u e = mapped_keeps (kind.Over level dimension) a t u e
-lowering_keeps ToSequential a t u e = mapped_keeps kind.Sequential a t u e
-lowering_keeps FoldSequential a t u e = folded_keeps a t u e
-lowering_keeps Local a t u e = on_array_keeps a t (Unary unary.ToLocal t) u (type_in a.types) refl (λ x n h. kept_keeps unary.ToLocal IsArray keeping_local a t (ap is_array h)) e
-lowering_keeps Private a t u e = on_array_keeps a t (Unary unary.ToPrivate t) u (type_in a.types) refl (λ x n h. kept_keeps unary.ToPrivate IsArray keeping_private a t (ap is_array h)) e
-lowering_keeps LocalCopy a t u e = on_array_keeps a t (copied unary.ToLocal (kind.Over Items X) t) u (type_in a.types) refl (copy_keeps unary.ToLocal keeping_local a (kind.Over Items X) t) e
-lowering_keeps PrivateCopy a t u e = on_array_keeps a t (copied unary.ToPrivate kind.Sequential t) u (type_in a.types) refl (copy_keeps unary.ToPrivate keeping_private a kind.Sequential t) e
-lowering_keeps Then a t u e =
+lowering_keeps (ToParallel level dimension) a t u poly e = mapped_keeps (kind.Over level dimension) a t u e
+lowering_keeps ToSequential a t u poly e = mapped_keeps kind.Sequential a t u e
+lowering_keeps FoldSequential a t u poly e = folded_keeps a t u e
+lowering_keeps Local a t u poly e = on_array_keeps a t (Unary unary.ToLocal t) u (type_in a.types) refl (λ x n h. kept_keeps unary.ToLocal IsArray keeping_local a t (ap is_array h)) e
+lowering_keeps Private a t u poly e = on_array_keeps a t (Unary unary.ToPrivate t) u (type_in a.types) refl (λ x n h. kept_keeps unary.ToPrivate IsArray keeping_private a t (ap is_array h)) e
+lowering_keeps LocalCopy a t u poly e = on_array_keeps a t (copied unary.ToLocal (kind.Over Items X) t) u (type_in a.types) refl (copy_keeps unary.ToLocal keeping_local a (kind.Over Items X) t) e
+lowering_keeps PrivateCopy a t u poly e = on_array_keeps a t (copied unary.ToPrivate kind.Sequential t) u (type_in a.types) refl (copy_keeps unary.ToPrivate keeping_private a kind.Sequential t) e
+lowering_keeps Then a t u poly e =
     let o = cut_becomes (type_in a.types) a.binders (Unary unary.Then t) u e in
     subst (KeepsIn a t) o.1 (kept_keeps unary.Then IsOutput keeping_then a t o.0)
+lowering_keeps Vector a t u poly e = fours_keep a t u poly.0 e
+lowering_keeps VectorScalar a t u poly e = vectors_again_keep a t u poly.1 e
 
 -- so does what a call answers
-pub answered_keeps : (rule : Rule) (a : Around) (t : Term) (r : Result Term Refused) → IsAnswer (answer rule a (tree_of t)) t r → IfOk r (λ u. KeepsIn a (tree_of t) (tree_of u))
-answered_keeps rule a t (Ok u) h = lowering_keeps rule a (tree_of t) (tree_of u) h
-answered_keeps rule a t (Err e) h = tt
+pub answered_keeps : (rule : Rule) (a : Around) (t : Term) (r : Result Term Refused) → HasPolynomials a → IsAnswer (answer rule a (tree_of t)) t r → IfOk r (λ u. KeepsIn a (tree_of t) (tree_of u))
+answered_keeps rule a t (Ok u) poly h = lowering_keeps rule a (tree_of t) (tree_of u) poly h
+answered_keeps rule a t (Err e) poly h = tt

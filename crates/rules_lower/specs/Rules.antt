@@ -14,7 +14,8 @@ use Rattle.rewriting.specs.declared.refused.Condition.TheVariants.{Array, Whole,
 use Rattle.rewriting.specs.Around.{Around}
 use Rattle.rewriting.specs.Answers.{Answer, Becomes, NoShape, NoSide}
 use Rattle.rules_lower.specs.declared.rule.Rule.{Rule}
-use Rattle.rules_lower.specs.declared.rule.Rule.TheVariants.{ToParallel, ToSequential, FoldSequential, Local, Private, LocalCopy, PrivateCopy, Then}
+use Rattle.rules_lower.specs.declared.rule.Rule.TheVariants.{ToParallel, ToSequential, FoldSequential, Local, Private, LocalCopy, PrivateCopy, Then, Vector, VectorScalar}
+use Rattle.rules_lower.specs.Vectors.{by_fours, vectors_again}
 
 -- a plain map, run so
 abbrev pub mapped : MapKind → Tree → Answer
@@ -61,3 +62,5 @@ answer Private a t = on_array a (Unary unary.ToPrivate t)
 answer LocalCopy a t = on_array a (copied unary.ToLocal (map.Over Items X) t)
 answer PrivateCopy a t = on_array a (copied unary.ToPrivate map.Sequential t)
 answer Then a t = cut_off a t
+answer Vector a t = by_fours a t
+answer VectorScalar a t = vectors_again t

@@ -7,5 +7,6 @@
 
 pub mod laws;
 pub mod rule;
+mod vectors;
 
 pub use rule::{Rule, apply};

@@ -7,6 +7,7 @@ ghost use Rattle.rewriting.specs.Answers.{IsAnswer};
 ghost use Rattle.rewriting.specs.Keeps.{KeepsIn};
 ghost use Rattle.rules_lower.specs.Rules.{answer, copied, cut_off, folded, mapped, on_array};
 
+use crate::vectors::{by_fours, has_polynomials, vectors_again};
 use lift_tree::term::{Dimension, FoldKind, Level, MapKind, Term, UnaryForm};
 use lift_tree::typed::Context;
 use rewriting::refused::{Condition, Refused};
@@ -32,6 +33,10 @@ pub enum Rule {
     PrivateCopy,
     /// `then`: an array is made by a kernel of its own, before those that read it.
     Then,
+    /// `vector`: a map of numbers is run by vectors of four.
+    Vector,
+    /// `vector-scalar`: the vectors of vectors' numbers are those vectors.
+    VectorScalar,
 }
 
 /// The term that the rule makes of the term, which has the term's type, and its value at all sizes,
@@ -39,7 +44,8 @@ pub enum Rule {
 ///
 /// `Shape` comes exactly where the rule wants a plain map or fold and the term is none, and
 /// `Side` exactly where it wants an array and the term is none, or, for `then`, an array whose
-/// pairs hold elements only, with no binder around it; both hand the term back unchanged. The
+/// pairs hold numbers only, with no binder around it, or, for `vector`, a body that acts lane by
+/// lane on an array of numbers, whose length 4 divides; both hand the term back unchanged. The
 /// context is that of the term's place.
 #[tactic(auto, using(crate::proofs::Kept::lowering_keeps))]
 pub fn apply(alloc: Global, rule: &Rule, term: Term, context: &Context) -> Result<Term, Refused>
@@ -47,6 +53,7 @@ pub fn apply(alloc: Global, rule: &Rule, term: Term, context: &Context) -> Resul
         (answer rule.now (context_of context.now) (tree_of term)) term result }
     ensures keeps { IfOk result (λ u. KeepsIn (context_of context.now) (tree_of term) (tree_of u)) }
 {
+    has_polynomials(context);
     match *rule {
         Rule::ToParallel(level, dimension) => mapped(term, MapKind::Over(level, dimension)),
         Rule::ToSequential => mapped(term, MapKind::Sequential),
@@ -68,6 +75,8 @@ pub fn apply(alloc: Global, rule: &Rule, term: Term, context: &Context) -> Resul
             context,
         ),
         Rule::Then => cut_off(alloc, term, context),
+        Rule::Vector => by_fours(alloc, term, context),
+        Rule::VectorScalar => vectors_again(term),
     }
 }
 

@@ -3,7 +3,7 @@ use Rattle.std.proofs.Common.{◌≡◌, ℕ, zero, suc, ◌*◌, ◌<◌, ◌^�
 use Rattle.std.specs.Prelude.{map}
 use Rattle.std.proofs.lemmas.Int.{ints}
 use Rattle.scalar_ops.specs.declared.op.Reducer.{Reducer}
-use Rattle.scalar_ops.specs.Operators.{combine, neutral}
+use Rattle.scalar_ops.specs.Operators.{combine, neutral, apply_op}
 use Rattle.scalar_ops.specs.Regroup.{IsRegroup}
 use Rattle.size_arith.specs.declared.poly.Monomial.{Monomial}
 use Rattle.size_arith.specs.Polynomial.{number, value_at, times, AllWide, IsPoly, quotient}
@@ -12,14 +12,15 @@ use Rattle.size_arith.proofs.Soundness.{shown_at_least}
 use Rattle.lift_tree.specs.declared.length.Factor.TheVariants as factor
 use Rattle.lift_tree.specs.declared.layout.Layout.TheVariants.{Join, Split, Transpose}
 use Rattle.lift_tree.specs.declared.term.UnaryForm.TheVariants.{Layout}
-use Rattle.lift_tree.specs.declared.term.BinaryForm.TheVariants.{Reduce}
+use Rattle.lift_tree.specs.declared.term.BinaryForm.TheVariants.{Reduce, Operator}
+use Rattle.lift_tree.specs.declared.term.Operator.TheVariants.{Regrouping}
 use Rattle.lift_tree.specs.Tree.{Tree, Variable, Number, Unary, Binary}
 use Rattle.lift_tree.specs.Lists.{Every, fold_left, concat, pieces, columns, width, first_of, rest_of}
 use Rattle.lift_tree.specs.Values.{Value, Word, array, members, word}
-use Rattle.lift_tree.specs.Meaning.{World, meaning, rows}
+use Rattle.lift_tree.specs.Meaning.{World, meaning, rows, on_lanes, scalar_op}
 use Rattle.lift_tree.specs.Types.{PlainTy, U32, ArrayOf, HasType, HaveTypes}
 use Rattle.lift_tree.specs.Typing.{Declared, Types, UnaryRow, IsAdmissible, constant}
-use Rattle.lift_tree.proofs.Copies.{Demand, TypesUnder, met, types_alone}
+use Rattle.lift_tree.proofs.Copies.{Demand, TypesUnder, met, met_pairs, types_alone}
 use Rattle.lift_tree.proofs.Members.{members-array, length-map, every_to, every_and, every-pieces, pieces_long, length-pieces}
 use Rattle.lift_tree.proofs.Rows.{list_have}
 use Rattle.lift_tree.proofs.Formed.{formed}
@@ -47,12 +48,13 @@ rows_typed asked d g r rs s m q a fits wide shown hrs hs ha =
       U32,
       (
         ArrayOf (ArrayOf U32 one) q,
-        (ArrayOf U32 m, ArrayOf U32 one, q, hrs, (ArrayOf U32 m, U32, refl, (fits, refl), (m, refl, refl, refl)), refl),
+        (ArrayOf U32 m, ArrayOf U32 one, q, hrs, (ArrayOf U32 m, U32, refl, (fits, refl), (m, refl, refl, refl), met_pairs asked (Reduce r) (ArrayOf U32 one) tt), refl),
         (U32, one, q, refl, refl, (shown-one d.names q wide shown, tt)),
         met asked (Layout Join) (ArrayOf U32 (times q one)) tt,
       ),
       hs,
       (times q one, refl, refl, ha),
+      met_pairs asked (Reduce r) a tt,
     )
 
 -- an array of numbers in pieces
@@ -84,6 +86,19 @@ step o b x = Word (combine o (word b) (word x))
 fold_words : (o : Reducer) (s : ℕ) (ns : List ℕ) → fold_left (step o) (Word s) (map Word ns) ≡ Word (fold_left (combine o) s ns)
 fold_words o s [] = refl
 fold_words o s (n ∷ ns) = fold_words o (combine o s n) ns
+
+-- the operator of a fold's body
+abbrev lanes : Reducer → Value → Value → Value
+lanes o b x = on_lanes (apply_op (scalar_op (Regrouping o))) b x
+
+fold_lanes : (o : Reducer) (s : ℕ) (ns : List ℕ) → fold_left (lanes o) (Word s) (map Word ns) ≡ fold_left (step o) (Word s) (map Word ns)
+fold_lanes o s [] = refl
+fold_lanes o s (n ∷ ns) = fold_lanes o (combine o s n) ns
+
+fold_alike : (o : Reducer) (u : Value) (vs : List Value) (s : ℕ) (ns : List ℕ) → u ≡ Word s → vs ≡ map Word ns → fold_left (lanes o) u vs ≡ fold_left (step o) u vs
+fold_alike o u vs s ns e f =
+    ap (fold_left (lanes o) u) f ∙ ap (λ z. fold_left (lanes o) z (map Word ns)) e ∙ fold_lanes o s ns
+    ∙ sym (ap (fold_left (step o) u) f ∙ ap (λ z. fold_left (step o) z (map Word ns)) e)
 
 -- rows reduced one by one
 rows_reduced : (o : Reducer) (e : ℕ) (rs : List Value) → concat (map members (map (λ r. array (fold_left (step o) (Word e) (members r) ∷ [])) rs)) ≡ map (λ r. fold_left (step o) (Word e) r) (map members rs)
@@ -254,6 +269,18 @@ stride_reduce_gives o laws a k (Binary (Reduce r) xs s) u same poly e =
 stride_reduce_gives o laws a k _ u same poly e = absurd (cc)
 
 -- ---- a fold in place of a reduction
+folds_alike : (d : Declared) (a : Around) (r : Reducer) (xs s : Tree) (w : World) (vs : List Value) → IsAround d a (Binary (Reduce r) xs s) → IsAdmissible d w → HaveTypes w.bases a.binders vs
+    → fold_left (lanes r) (meaning w vs s) (members (meaning w vs xs)) ≡ fold_left (step r) (meaning w vs s) (members (meaning w vs xs))
+folds_alike d a r xs s w vs around ok all =
+    let g = a.binders in
+    let n = array_length a.types in
+    let typed = reduced_array d g r xs s a.types around.nodes in
+    let v = meaning w vs xs in
+    let t = list_have w.bases U32 n v (values_have_types d w g vs xs (ArrayOf U32 n) around.declared ok around.binders all typed.0) in
+    let ms = words w.bases (members v) t.1 in
+    let st = values_have_types d w g vs s U32 around.declared ok around.binders all typed.1 in
+    fold_alike r (meaning w vs s) (members v) st.0 ms.numbers st.1 ms.words
+
 pub reduce_fold_gives : (a : Around) (t u : Tree) → reduce_fold t ≡ Becomes u → KeepsIn a t u
 reduce_fold_gives a (Binary (Reduce r) xs s) u e =
     let same : folded r xs s ≡ u = cc in
@@ -261,6 +288,6 @@ reduce_fold_gives a (Binary (Reduce r) xs s) u e =
     (λ asked ty h.
     let typed_xs = subst (TypesUnder asked d a.binders xs) h.4.1 h.2 in
     let typed_s = subst (TypesUnder asked d a.binders s) h.4.2 h.3 in
-    (U32, U32, h.4.0, typed_xs, typed_s, tt, (U32, U32, refl, refl, (refl, refl, refl)), h.4.3))
-    (λ w vs ok all. refl))
+    (U32, U32, h.4.0, typed_xs, typed_s, tt, (U32, U32, refl, refl, refl, met_pairs asked (Operator (Regrouping r)) U32 tt), h.4.3))
+    (λ w vs ok all. ap (λ z. array (z ∷ [])) (folds_alike d a r xs s w vs around ok all)))
 reduce_fold_gives a _ u e = absurd (cc)

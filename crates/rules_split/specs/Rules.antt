@@ -14,7 +14,7 @@ use Rattle.lift_tree.specs.declared.term.MapKind.TheVariants as map
 use Rattle.lift_tree.specs.declared.term.FoldKind.TheVariants as fold
 use Rattle.lift_tree.specs.Tree.{Tree, Variable, Number, Unary, Binary, Map, Fold}
 use Rattle.lift_tree.specs.Renumbering.{raise}
-use Rattle.lift_tree.specs.Types.{PlainTy, U32, PairOf, ArrayOf}
+use Rattle.lift_tree.specs.Types.{PlainTy, U32, U32x4, PairOf, ArrayOf}
 use Rattle.lift_tree.specs.Typing.{constant}
 use Rattle.lift_tree.specs.Annotations.{Annotation, Leaf, One, Two, Three, type_in}
 use Rattle.rewriting.specs.declared.refused.Condition.{Condition}
@@ -48,6 +48,7 @@ under sides t = unless (first_false sides) t
 -- ---- the length of the array, which is a node's first child; 0 where that is none
 abbrev pub length_in : PlainTy → List Monomial
 length_in U32 = []
+length_in U32x4 = []
 length_in (PairOf a b) = []
 length_in (ArrayOf a n) = n
 

@@ -75,7 +75,7 @@ fn length_in<'t>(ty: &'t Ty, none: &'t Poly) -> &'t Poly
 {
     match ty {
         Ty::Array(_, length) => length,
-        Ty::Number | Ty::Pair(_, _) => none,
+        Ty::Number | Ty::Vector | Ty::Pair(_, _) => none,
     }
 }
 

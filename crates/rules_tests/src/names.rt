@@ -3,13 +3,16 @@
 use rewriting::Condition;
 use std::test::Fail;
 
-const CONDITIONS: [(Condition, &str); 6] = [
+const CONDITIONS: [(Condition, &str); 9] = [
     (Condition::Positive, "positive"),
     (Condition::Divides, "divides"),
     (Condition::Length, "length"),
     (Condition::Same, "same"),
     (Condition::Mentions, "mentions"),
     (Condition::Array, "array"),
+    (Condition::Whole, "whole"),
+    (Condition::Closed, "closed"),
+    (Condition::Lanes, "lanes"),
 ];
 
 #[test]

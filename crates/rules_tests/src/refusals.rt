@@ -55,7 +55,7 @@ const SHAPES: [(&str, &str, u64); 28] = [
 ];
 
 // A term, a script, the step that isn't made, and the first condition that is false.
-const SIDES: [(&str, &str, u64, Condition); 31] = [
+const SIDES: [(&str, &str, u64, Condition); 39] = [
     (
         "split(2, join(rows))",
         "at . split-join",
@@ -207,6 +207,40 @@ const SIDES: [(&str, &str, u64, Condition); 31] = [
         "at 1.0 then",
         1,
         Condition::Array,
+    ),
+    (
+        "map(\\x. eq(x, 1), eight)",
+        "at . vector",
+        1,
+        Condition::Lanes,
+    ),
+    (
+        "map(\\x. select(x, 1, 2), eight)",
+        "at . vector",
+        1,
+        Condition::Lanes,
+    ),
+    (
+        "map(\\x. let y = x in y, eight)",
+        "at . vector",
+        1,
+        Condition::Lanes,
+    ),
+    ("map(\\x. 3, eight)", "at . vector", 1, Condition::Lanes),
+    ("map(\\r. r, rows)", "at . vector", 1, Condition::Lanes),
+    (
+        "map(\\p. first(p), zip(eight, eight))",
+        "at . vector",
+        1,
+        Condition::Lanes,
+    ),
+    // of both the first is told
+    ("map(\\x. lt(x, 1), xs)", "at . vector", 1, Condition::Lanes),
+    (
+        "map(\\x. add(x, 1), xs)",
+        "at . vector",
+        1,
+        Condition::Divides,
     ),
 ];
 

@@ -246,7 +246,7 @@ const REGROUPED: [(&str, &str, &str); 7] = [
     ),
 ];
 
-const LOWER: [(&str, &str, &str); 19] = [
+const LOWER: [(&str, &str, &str); 23] = [
     ("map(\\x. x, xs)", "at . to-glb", "mapGlb(\\_0. _0, xs)"),
     ("map(\\x. x, xs)", "at . to-wrg", "mapWrg(\\_0. _0, xs)"),
     ("map(\\x. x, xs)", "at . to-lcl", "mapLcl(\\_0. _0, xs)"),
@@ -294,6 +294,27 @@ const LOWER: [(&str, &str, &str); 19] = [
         "let y = map(\\x. x, xs) in y",
         "at 0 then",
         "let _0 = then(map(\\_0. _0, xs)) in _0",
+    ),
+    (
+        "map(\\x. sub(div(x, 3), min(7, x)), eight)",
+        "at . vector",
+        "asScalar(map(\\_0. sub(div(_0, 3), min(7, _0)), asVector(4, eight)))",
+    ),
+    (
+        "map(\\r. map(\\x. x, r), rows)",
+        "at 1 vector",
+        "map(\\_0. asScalar(map(\\_1. _1, asVector(4, _0))), rows)",
+    ),
+    // a number of the map around stands for four
+    (
+        "map(\\y. map(\\x. rem(add(x, y), 5), eight), xs)",
+        "at 1 vector",
+        "map(\\_0. asScalar(map(\\_1. rem(add(_1, _0), 5), asVector(4, eight))), xs)",
+    ),
+    (
+        "map(\\y. y, map(\\x. x, eight))",
+        "at 0 vector\nat . vector\nat 0.0 vector-scalar",
+        "asScalar(map(\\_0. _0, map(\\_0. _0, asVector(4, eight))))",
     ),
 ];
 

@@ -9,7 +9,7 @@ use lift_tree::typed::Typed;
 use pattern_types::{belongs_to, is_proper, type_of};
 use std::alloc::Global;
 use std::test::Fail;
-use strategy_script::{StepNo, last_term, read_script, run_script};
+use strategy_script::{StepNo, last_term, read_script, run_script, script_lines};
 use term_texts::term_text;
 
 // The sizes and inputs of the tests' programs.
@@ -78,12 +78,32 @@ fn written(alloc: Global, terms: &[Typed]) -> Result<Vec<u8>, Fail> {
     Ok(text)
 }
 
+// The same, each written as it is made.
+fn lines_at_once(alloc: Global, program: &[u8], script: &[u8]) -> Result<Option<Vec<u8>>, Fail> {
+    let Some(source) = source(alloc, program)? else {
+        return Ok(None);
+    };
+    let Ok(script) = read_script(alloc, script) else {
+        return Ok(None);
+    };
+    match script_lines(alloc, source, &script) {
+        Ok(text) => Ok(Some(text)),
+        Err(_) => Ok(None),
+    }
+}
+
+fn is_text(found: &Option<Vec<u8>>, want: &[u8]) -> bool {
+    match found {
+        Some(text) => text.as_slice() == want,
+        None => false,
+    }
+}
+
 /// Whether these are the terms of the script, each on a line.
 pub fn has_lines(alloc: Global, program: &[u8], script: &[u8], want: &[u8]) -> Result<bool, Fail> {
-    match lines(alloc, program, script)? {
-        Some(text) => Ok(text.as_slice() == want),
-        None => Ok(false),
-    }
+    let terms = lines(alloc, program, script)?;
+    let written = lines_at_once(alloc, program, script)?;
+    Ok(is_text(&terms, want) && is_text(&written, want))
 }
 
 /// Whether this is the last term of the script.

@@ -10,7 +10,7 @@ use std::test::Fail;
 use strategy_script::{Rule, ScriptLimit, ScriptNo, read_script};
 
 // Each rule by its name, at the root or below.
-const STEPS: [(&str, &[u32], Rule); 35] = [
+const STEPS: [(&str, &[u32], Rule); 37] = [
     ("at . fuse-map", &[], Rule::Algebra(Algebra::FuseMap)),
     ("at 0 fuse-fold", &[0], Rule::Algebra(Algebra::FuseFold)),
     (
@@ -106,6 +106,12 @@ const STEPS: [(&str, &[u32], Rule); 35] = [
         Rule::Lower(Lower::PrivateCopy),
     ),
     ("at 0 then", &[0], Rule::Lower(Lower::Then)),
+    ("at . vector", &[], Rule::Lower(Lower::Vector)),
+    (
+        "at 0.0 vector-scalar",
+        &[0, 0],
+        Rule::Lower(Lower::VectorScalar),
+    ),
 ];
 
 // Texts, and how many steps they have.

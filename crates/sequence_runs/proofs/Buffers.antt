@@ -5,7 +5,7 @@ use Rattle.std.proofs.lemmas.List.{ext_get_or}
 use Rattle.kernel_tree.specs.Device.{row}
 use Rattle.lift_tree.specs.Launches.{buffers_of, lists_of}
 use Rattle.lift_tree.specs.Lists.{Every}
-use Rattle.lift_tree.specs.Types.{HasType, HaveTypes, IsInput, PlainTy, U32, PairOf, ArrayOf}
+use Rattle.lift_tree.specs.Types.{HasType, HaveTypes, IsInput, PlainTy, U32, U32x4, PairOf, ArrayOf}
 use Rattle.lift_tree.specs.Values.{Value, Word, array, nth}
 
 -- ---- rows
@@ -62,6 +62,7 @@ no_array (x ∷ xs) e = absurd (cc)
 
 no_input : (ys : List ℕ) (a : PlainTy) → IsInput a → HasType ys a (Word 0) → ⊥
 no_input ys U32 h t = absurd h
+no_input ys U32x4 h t = absurd h
 no_input ys (PairOf a b) h t = absurd h
 no_input ys (ArrayOf a n) h t = no_array t.0 t.1
 

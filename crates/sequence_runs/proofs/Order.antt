@@ -13,7 +13,7 @@ use Rattle.lift_tree.specs.Annotations.{AnnotatedIsTyped, annotation_of, type_in
 use Rattle.lift_tree.specs.Launches.{buffers_of, lists_of}
 use Rattle.lift_tree.specs.Meaning.{World}
 use Rattle.lift_tree.specs.Tree.{tree_of}
-use Rattle.lift_tree.specs.Types.{HasType, HaveTypes, HoldsElements, IsOutput, PlainTy, U32, PairOf, ArrayOf, ty_of}
+use Rattle.lift_tree.specs.Types.{HasType, HaveTypes, HoldsElements, IsOutput, PlainTy, U32, U32x4, PairOf, ArrayOf, ty_of}
 use Rattle.lift_tree.specs.Typing.{Declared, IsAdmissible, ValuesHaveTypes}
 use Rattle.lift_tree.specs.Values.{Value}
 use Rattle.lowered_tree.specs.Kinds.{asks_of}
@@ -35,6 +35,7 @@ InputsStay = (k : Kernel) (l : Launch) (c : Cells) (s : State) (es : List Event)
 
 pub elements : (a : PlainTy) → IsOutput a → HoldsElements a
 elements U32 h = absurd h
+elements U32x4 h = absurd h
 elements (PairOf a b) h = absurd h
 elements (ArrayOf a n) h = h
 

@@ -1,5 +1,6 @@
 pub mod Deep
 pub mod Digits
+pub mod Inlined
 pub mod Listed
 pub mod Once
 pub mod Openings
@@ -8,3 +9,4 @@ pub mod Rewritten
 pub mod Small
 pub mod Stepping
 pub mod TextLines
+pub mod Written

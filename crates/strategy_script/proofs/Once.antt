@@ -3,12 +3,11 @@ use Rattle.std.proofs.Common.{◌≡◌, ◌⊎◌, ◌∙◌, ◌<◌, ◌≤�
 use Rattle.std.specs.Prelude.{IfErr, IfOk}
 use Rattle.std.specs.Result.{IsErrAnd}
 use Rattle.strategy_script.specs.Laws.{ScriptsEndOnce}
-use Rattle.strategy_script.specs.ScriptText.{AreSteps, IsScript, ReadsScript, RefusesScript, RefusesSteps, good_lines, script_in, step_lines, steps_in}
+use Rattle.strategy_script.specs.ScriptText.{IsScript, ReadsScript, RefusesScript}
 use Rattle.strategy_script.specs.declared.script.ScriptLimit.TheVariants as limits
 use Rattle.strategy_script.specs.declared.script.ScriptNo.{ScriptNo}
 use Rattle.strategy_script.specs.declared.script.ScriptNo.TheVariants as scripts
 use Rattle.strategy_script.specs.Scripts.{PlainScript}
-use Rattle.strategy_script.specs.declared.script.Step.{Step}
 
 pub scripts_one : ScriptsEndOnce
 scripts_one text (Ok m) (Ok n) h k = ap Ok (h.0.found ∙ sym k.0.found)

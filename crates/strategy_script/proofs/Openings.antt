@@ -1,6 +1,6 @@
 -- The lines that a script begins with: of no step, and one that fixes the local size.
-use Rattle.std.proofs.Common.{◌≡◌, ◌∙◌, ◌+◌, ◌-◌, ◌<◌, ◌≤◌, ℕ, zero, suc, List, [], ◌∷◌, Bool, true, false, Option, Some, None, length, refl, ap, sym, subst, arith, cond, take}
-use Rattle.std.specs.Prelude.{◌==◌, bytes_eq, codes, is_some, Result, Ok, Err, IfOk, IfErr}
+use Rattle.std.proofs.Common.{◌≡◌, ◌∙◌, ◌+◌, ◌<◌, ◌≤◌, ℕ, zero, suc, List, [], ◌∷◌, Bool, true, false, Option, Some, None, length, refl, ap, sym, subst, arith, cond, take}
+use Rattle.std.specs.Prelude.{bytes_eq, codes, is_some, Result, Ok, Err, IfOk, IfErr}
 use Rattle.std.specs.Result.{IsErrAnd}
 use Rattle.std.specs.List.{prefix_len, filter_map, cons_option}
 use Rattle.std.specs.Str.Lines.{lines}
@@ -13,7 +13,7 @@ use Rattle.strategy_script.specs.declared.script.ScriptNo.TheVariants as scripts
 use Rattle.strategy_script.specs.Lines.{behind_word, first_word, from_word, is_inner, is_no_step, is_end_or_comment}
 use Rattle.strategy_script.specs.LocalSize.{local_in, local_of, size_behind}
 use Rattle.strategy_script.specs.Scripts.{PlainScript}
-use Rattle.strategy_script.specs.ScriptText.{AreSteps, IsScript, RefusesScript, RefusesSteps, good_lines, is_line, script_in, script_lines, step_behind, step_lines, step_of, steps_in}
+use Rattle.strategy_script.specs.ScriptText.{AreSteps, IsScript, RefusesScript, RefusesSteps, good_lines, script_lines, step_behind, step_lines, step_of, steps_in}
 
 -- ---- lines that are no steps
 head_kept : (n b : ℕ) (bs : List ℕ) → 0 < n → (rest : List ℕ) × (take n (b ∷ bs) ≡ b ∷ rest)

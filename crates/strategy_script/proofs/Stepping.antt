@@ -1,6 +1,6 @@
 -- One step: the rewrite, the limits, the types.
 use Rattle.std.proofs.Common.{◌≡◌, ℕ, ◌≤◌, [], refl, sym, ap, ◌∙◌, subst, arith}
-use Rattle.std.specs.Prelude.{Result, Ok, Err, Bool, true, false, if◌then◌else◌, nat_lt}
+use Rattle.std.specs.Prelude.{IfOk, Result, Ok, Err, Bool, true, false, if◌then◌else◌, nat_lt}
 use Rattle.std.proofs.lemmas.Bool.{ltb-false}
 use Rattle.lift_tree.specs.declared.program.Program.{Program}
 use Rattle.lift_tree.specs.declared.term.Term.{Term}
@@ -21,7 +21,7 @@ use Rattle.strategy_script.specs.declared.faults.StepLimit.{StepLimit}
 use Rattle.strategy_script.specs.declared.faults.StepLimit.TheVariants.{Nodes, Depth}
 use Rattle.strategy_script.specs.declared.faults.Fault.{Fault}
 use Rattle.strategy_script.specs.declared.faults.Fault.TheVariants as fault
-use Rattle.strategy_script.specs.Steps.{State, state_of, around_whole, IsAfter, IsReady, whole, rewritten, at_most, limited, type_fault, with_types, stepped}
+use Rattle.strategy_script.specs.Steps.{State, state_of, around_whole, HasSomeOutput, IsAfter, IsReady, whole, rewritten, at_most, limited, type_fault, with_types, stepped}
 use Rattle.strategy_script.proofs.Small.{low_renumberable}
 
 -- ---- a program's copy
@@ -30,7 +30,7 @@ proper_same p q e h = subst IsProper (sym e) h
 
 -- ---- the whole term
 -- what stands around it
-whole_around : (s : Typed) → IsTyped s → IsAround (declared_by (program_of s.program)) (whole s) (tree_of s.term)
+pub whole_around : (s : Typed) → IsTyped s → IsAround (declared_by (program_of s.program)) (whole s) (tree_of s.term)
 whole_around s h = record { declared = h.declared; names = refl; binders = tt; nodes = h.nodes }
 
 -- what keeps the term's type has an output's
@@ -40,9 +40,12 @@ rewritten_has_output annotated s u h k =
     let typed = annotated d [] (tree_of s.term) (annotation_of s.types) h.nodes in
     record { declared = h.declared; typed = (k d (whole_around s h)).typed (type_in (annotation_of s.types)) typed; output = h.output }
 
+pub some_output : (p : PlainProgram) (u : Tree) (a : PlainTy) → HasOutput p u a → HasSomeOutput p u
+some_output p u a h = record { ty = a; is = h }
+
 -- ---- the same of a copy of the program
-pub output_of_same : (p q : Program) (u : Tree) (a : PlainTy) → program_of q ≡ program_of p → HasOutput (program_of p) u a → HasOutput (program_of q) u a
-output_of_same p q u a e h = subst (λ (r : PlainProgram). HasOutput r u a) (sym e) h
+pub output_same : (p q : Program) (u : Tree) → program_of q ≡ program_of p → HasSomeOutput (program_of p) u → HasSomeOutput (program_of q) u
+output_same p q u e h = subst (λ (r : PlainProgram). HasSomeOutput r u) (sym e) h
 
 pub term_of_same : (p q : Program) (u : Tree) → program_of q ≡ program_of p → IsTermOf (program_of p) u → IsTermOf (program_of q) u
 term_of_same p q u e h = subst (λ (r : PlainProgram). IsTermOf r u) (sym e) h
@@ -69,13 +72,14 @@ limited_low t e =
 then_limits : (p : PlainProgram) (step : Step) (s : State) (r : Result Tree Fault) → rewritten step (around_whole p s) s.tree ≡ r → stepped p step s ≡ and_then r (λ t. and_then (limited t) (λ _. with_types t (program_judged p t)))
 then_limits p step s r e = ap (λ (x : Result Tree Fault). and_then x (λ t. and_then (limited t) (λ _. with_types t (program_judged p t)))) e
 
-then_types : (p q : PlainProgram) (u : Tree) (r : Result Annotation TypeRefusal) → limited u ≡ Ok tt → q ≡ p → program_judged q u ≡ r → and_then (limited u) (λ _. with_types u (program_judged p u)) ≡ with_types u r
+then_types : (p q : PlainProgram) (u : Tree) (r : Result State Fault) → limited u ≡ Ok tt → q ≡ p → with_types u (program_judged q u) ≡ r → and_then (limited u) (λ _. with_types u (program_judged p u)) ≡ r
 then_types p q u r l e j =
     ap (λ (x : Result (Unit {0}) Fault). and_then x (λ _. with_types u (program_judged p u))) l
-    ∙ ap (with_types u) (ap (λ (z : PlainProgram). program_judged z u) (sym e) ∙ j)
+    ∙ ap (λ (z : PlainProgram). with_types u (program_judged z u)) (sym e)
+    ∙ j
 
 pub made : (p q : PlainProgram) (step : Step) (s : State) (u : Tree) (n : Annotation) → rewritten step (around_whole p s) s.tree ≡ Ok u → limited u ≡ Ok tt → q ≡ p → program_judged q u ≡ Ok n → stepped p step s ≡ Ok (record { tree = u; types = n })
-made p q step s u n r l e j = then_limits p step s (Ok u) r ∙ then_types p q u (Ok n) l e j
+made p q step s u n r l e j = then_limits p step s (Ok u) r ∙ then_types p q u (Ok (record { tree = u; types = n })) l e (ap (with_types u) j)
 
 pub not_rewritten : (p : PlainProgram) (step : Step) (s : State) (f : Fault) → rewritten step (around_whole p s) s.tree ≡ Err f → stepped p step s ≡ Err f
 not_rewritten p step s f r = then_limits p step s (Err f) r
@@ -83,8 +87,16 @@ not_rewritten p step s f r = then_limits p step s (Err f) r
 pub not_limited : (p : PlainProgram) (step : Step) (s : State) (u : Tree) (f : Fault) → rewritten step (around_whole p s) s.tree ≡ Ok u → limited u ≡ Err f → stepped p step s ≡ Err f
 not_limited p step s u f r l = then_limits p step s (Ok u) r ∙ ap (λ (x : Result (Unit {0}) Fault). and_then x (λ _. with_types u (program_judged p u))) l
 
-pub not_typed : (p q : PlainProgram) (step : Step) (s : State) (u : Tree) (e : TypeRefusal) → rewritten step (around_whole p s) s.tree ≡ Ok u → limited u ≡ Ok tt → q ≡ p → program_judged q u ≡ Err e → stepped p step s ≡ Err (type_fault e)
-not_typed p q step s u e r l same j = then_limits p step s (Ok u) r ∙ then_types p q u (Err e) l same j
+pub not_typed : (p q : PlainProgram) (step : Step) (s : State) (u : Tree) (f : Fault) → rewritten step (around_whole p s) s.tree ≡ Ok u → limited u ≡ Ok tt → q ≡ p → with_types u (program_judged q u) ≡ Err f → stepped p step s ≡ Err f
+not_typed p q step s u f r l same j = then_limits p step s (Ok u) r ∙ then_types p q u (Err f) l same j
+
+-- a limit on types that the term passes
+pub with_limit : (u : Tree) (r : Result Annotation TypeRefusal) (e : TypeRefusal) → r ≡ Err e → with_types u r ≡ Err (type_fault e)
+with_limit u r e h = ap (with_types u) h
+
+-- a term with an output's type is never ill-typed
+pub no_output : (p : PlainProgram) (u : Tree) → HasSomeOutput p u → ((a : PlainTy) → ¬ HasOutput p u a) → ⊥
+no_output p u h k = k h.ty h.is
 
 -- the step of a typed term
 pub steps_to : (s t : Typed) (q : Program) (u : Term) (step : Step) → rewritten step (whole s) (tree_of s.term) ≡ Ok (tree_of u) → limited (tree_of u) ≡ Ok tt → program_of q ≡ program_of s.program
@@ -105,3 +117,9 @@ is_ready s t q u e pe te h ht l k = record {
   typed = ht;
   small = subst (λ (z : Term). IsRenumberable (tree_of z)) (sym te) (low_renumberable _ _ (tree_of u) k (limited_low (tree_of u) l));
 }
+
+-- where there is one
+pub all_ready : (s : Typed) (q : Program) (u : Term) (r : Result Typed Fault) → program_of q ≡ program_of s.program → IsReady s → limited (tree_of u) ≡ Ok tt → IsTermOf (program_of s.program) (tree_of u)
+    → IfOk r (λ t. (t.program ≡ q) × (t.term ≡ u)) → IfOk r IsTyped → IfOk r (λ t. IsReady t)
+all_ready s q u (Ok t) e h l k same typed = is_ready s t q u e same.0 same.1 h typed l k
+all_ready s q u (Err f) e h l k same typed = tt

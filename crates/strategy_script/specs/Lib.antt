@@ -1,9 +1,11 @@
+pub mod Inlined
 pub mod Laws
 pub mod Lines
 pub mod LocalSize
 pub mod Numbers
 pub mod RuleAnswers
 pub mod RuleNames
+pub mod ScriptLines
 pub mod ScriptText
 pub mod Scripts
 pub mod Steps

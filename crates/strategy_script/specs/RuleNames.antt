@@ -54,6 +54,8 @@ lower_name lower.Private = codes "private"
 lower_name lower.LocalCopy = codes "local-copy"
 lower_name lower.PrivateCopy = codes "private-copy"
 lower_name lower.Then = codes "then"
+lower_name lower.Vector = codes "vector"
+lower_name lower.VectorScalar = codes "vector-scalar"
 
 -- the word for a rule
 abbrev pub rule_name : Rule → List ℕ
@@ -95,6 +97,8 @@ plain_rules =
     Lower lower.LocalCopy ∷
     Lower lower.PrivateCopy ∷
     Lower lower.Then ∷
+    Lower lower.Vector ∷
+    Lower lower.VectorScalar ∷
     []
 
 -- the rule of this name, among those without a number

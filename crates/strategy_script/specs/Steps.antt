@@ -6,7 +6,8 @@ use Rattle.lift_tree.specs.Places.{node_at, with_at}
 use Rattle.lift_tree.specs.Programs.{PlainProgram, program_of}
 use Rattle.lift_tree.specs.WorkedOut.{range_of}
 use Rattle.lift_tree.specs.Annotations.{Annotation, annotation_of, IsTyped}
-use Rattle.lift_tree.specs.Typing.{declared_by}
+use Rattle.lift_tree.specs.Types.{PlainTy}
+use Rattle.lift_tree.specs.Typing.{HasOutput, declared_by}
 use Rattle.lift_tree.specs.Renumbering.{IsRenumberable}
 use Rattle.pattern_types.specs.declared.refusal.TypeRefusal.{TypeRefusal}
 use Rattle.pattern_types.specs.declared.refusal.TypeRefusal.TheVariants as refusal
@@ -131,3 +132,8 @@ pub record IsReady (t : Typed) : Type 0 where
   pub proper : IsProper (program_of t.program)
   pub typed : IsTyped t
   pub small : IsRenumberable (tree_of t.term)
+
+-- the term has an output's type
+pub record HasSomeOutput (p : PlainProgram) (t : Tree) : Type 0 where
+  pub ty : PlainTy
+  pub is : HasOutput p t ty

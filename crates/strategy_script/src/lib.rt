@@ -5,6 +5,7 @@
 mod apply;
 mod context;
 pub mod faults;
+mod growth;
 pub mod laws;
 mod lines;
 mod local_size;
@@ -19,5 +20,5 @@ mod steps;
 pub use faults::{StepLimit, StepNo, Why};
 pub use read::read_script;
 pub use rule::Rule;
-pub use run::{last_term, run_script};
+pub use run::{last_term, run_script, script_lines};
 pub use script::{Script, ScriptLimit, ScriptNo, Step};

@@ -19,7 +19,7 @@ pub enum Rule {
     Lower(Lower),
 }
 
-const PLAIN: [Rule; 31] = [
+const PLAIN: [Rule; 33] = [
     Rule::Algebra(Algebra::FuseMap),
     Rule::Algebra(Algebra::FuseFold),
     Rule::Algebra(Algebra::JoinSplit),
@@ -51,6 +51,8 @@ const PLAIN: [Rule; 31] = [
     Rule::Lower(Lower::LocalCopy),
     Rule::Lower(Lower::PrivateCopy),
     Rule::Lower(Lower::Then),
+    Rule::Lower(Lower::Vector),
+    Rule::Lower(Lower::VectorScalar),
 ];
 
 fn algebra_name(rule: Algebra) -> &'static [u8]
@@ -106,6 +108,8 @@ fn lower_name(rule: Lower) -> &'static [u8]
         Lower::LocalCopy => b"local-copy",
         Lower::PrivateCopy => b"private-copy",
         Lower::Then => b"then",
+        Lower::Vector => b"vector",
+        Lower::VectorScalar => b"vector-scalar",
     }
 }
 

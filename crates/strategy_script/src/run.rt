@@ -1,23 +1,25 @@
 //! Running a script.
 
-ghost use Rattle.std.specs.Prelude.{◌≡◌, ◌≢◌, Ok, Err, IfOk, IfErr, IfSome, map};
+ghost use Rattle.std.specs.Prelude.{◌≡◌, ◌≢◌, ◌++◌, Ok, Err, IfOk, IfErr, IfSome, OnOk, map};
 ghost use Rattle.lift_tree.specs.Lists.{Every};
 ghost use Rattle.lift_tree.specs.Programs.{program_of};
 ghost use Rattle.lift_tree.specs.Types.{ty_of};
 ghost use Rattle.pattern_types.specs.Judged.{AreInputs};
 ghost use Rattle.lift_tree.specs.declared.typed.Typed.{Typed};
+ghost use Rattle.strategy_script.specs.ScriptLines.{AreLines, line_of};
 ghost use Rattle.strategy_script.specs.Steps.{IsAfter, IsLastTerm, IsReady, at_step};
 ghost use Rattle.strategy_script.specs.Steps.{state_of, stepped, terms_of};
 ghost use Rattle.strategy_script.specs.declared.faults.StepNo.TheVariants as no;
 
 use crate::faults::StepNo;
 use crate::script::{Script, Step};
-use crate::steps::stepped;
+use crate::steps::{stepped, stepped_on};
 use lift_tree::ty::Ty;
 use lift_tree::typed::Typed;
 use rewriting::laws::keeping_goes_on;
-use std::alloc::Global;
+use std::alloc::{AllocError, Global};
 use std::collections::VecDeque;
+use term_texts::term_text;
 
 // The term after the step of this number.
 fn term_after(
@@ -45,7 +47,7 @@ fn term_after(
     }
 }
 
-// The same of a term that isn't wanted any longer.
+// The same of a term that isn't wanted any longer: its program is moved on.
 fn term_in_place(
     alloc: Global,
     known: &mut Option<VecDeque<Ty>>,
@@ -63,7 +65,11 @@ fn term_in_place(
     ensures refused { IfErr result (λ e. e ≢ no.Memory → at_step number
         (stepped (program_of typed.program) step.now (state_of typed)) ≡ Err e) }
 {
-    term_after(alloc, known, &typed, step, number)
+    keeping_goes_on();
+    match stepped_on(alloc, known, typed, step) {
+        Ok(next) => Ok(next),
+        Err(fault) => Err(fault.at(number)),
+    }
 }
 
 /// The terms of a script: the source, then the term after each step. Each is typed, in the source's
@@ -122,4 +128,39 @@ pub fn last_term(alloc: Global, source: Typed, script: &Script) -> Result<Typed,
         rest = further;
     }
     Ok(current)
+}
+
+// Writes the term on a line behind the text.
+fn push_line(alloc: Global, text: &mut Vec<u8>, typed: &Typed) -> Result<(), AllocError>
+    ensures { OnOk result (text.new.items ≡ text.old.items
+        ++ line_of (program_of typed.now.program) (state_of typed.now)) }
+{
+    let line = term_text(alloc, &typed.term, &typed.program)?;
+    text.extend_from_slice(line.as_slice())?;
+    text.push(b'\n')?;
+    Ok(())
+}
+
+/// A line for each of the terms that [`run_script`] gives, with the same refusals. It holds two
+/// terms at a time.
+#[tactic(auto, using(crate::proofs::Written::begin_lines, crate::proofs::Written::all_lines))]
+pub fn script_lines(alloc: Global, source: Typed, script: &Script) -> Result<Vec<u8>, StepNo>
+    requires ready { IsReady source }
+    ensures lines { IfOk result (λ text. AreLines source script.now.steps text.items) }
+    ensures refused { IfErr result (λ e. e ≢ no.Memory
+        → terms_of (program_of source.program) script.now.steps (state_of source) ≡ Err e) }
+{
+    let mut text = Vec::new(alloc);
+    let mut current = source;
+    let mut known = None;
+    let mut made = 0u64;
+    let mut rest = script.steps();
+    'steps: while let Some((step, further)) = rest.split_first() {
+        made += 1;
+        push_line(alloc, &mut text, &current)?;
+        current = term_in_place(alloc, &mut known, current, step, made)?;
+        rest = further;
+    }
+    push_line(alloc, &mut text, &current)?;
+    Ok(text)
 }

@@ -2,7 +2,7 @@
 use Rattle.std.specs.Prelude.{ℕ, ◌+◌, ◌-◌, ◌++◌, List, if◌then◌else◌, codes, decimal}
 use Rattle.lift_tree.specs.declared.program.Size.{Size}
 use Rattle.lift_tree.specs.declared.layout.Layout as layout
-use Rattle.lift_tree.specs.declared.layout.Layout.TheVariants.{Join, Transpose, Split, Reverse, Stride}
+use Rattle.lift_tree.specs.declared.layout.Layout.TheVariants.{Join, Transpose, Split, Reverse, Stride, AsVector, AsScalar}
 use Rattle.lift_tree.specs.declared.term.UnaryForm.{UnaryForm}
 use Rattle.lift_tree.specs.declared.term.UnaryForm.TheVariants.{Div, Rem, First, Second, Layout, Slide, Pad, ToLocal, ToPrivate, Then}
 use Rattle.lift_tree.specs.declared.term.MapKind.{MapKind}
@@ -26,6 +26,8 @@ layout_start sizes Transpose = codes "transpose("
 layout_start sizes (Split fs) =
     codes "split(" ++ product_text (coefficient fs) (starred sizes 0 fs) ++ codes ", "
 layout_start sizes Reverse = codes "reverse("
+layout_start sizes AsVector = codes "asVector(4, "
+layout_start sizes AsScalar = codes "asScalar("
 layout_start sizes (Stride fs) =
     codes "stride(" ++ product_text (coefficient fs) (starred sizes 0 fs) ++ codes ", "
 

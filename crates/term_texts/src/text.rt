@@ -83,6 +83,8 @@ fn push_layout_start(
             text.extend_from_slice(b", ")
         }
         Layout::Reverse => text.extend_from_slice(b"reverse("),
+        Layout::AsVector => text.extend_from_slice(b"asVector(4, "),
+        Layout::AsScalar => text.extend_from_slice(b"asScalar("),
         Layout::Stride(product) => {
             text.extend_from_slice(b"stride(")?;
             push_product(alloc, text, &program.sizes, product.factors())?;

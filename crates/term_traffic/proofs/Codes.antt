@@ -2,16 +2,16 @@
 use Rattle.std.proofs.Common.{◌≡◌, ℕ, zero, suc, ◌+◌, ◌*◌, ◌<◌, ◌≤◌, Bool, true, false, List, [], ◌∷◌, Option, refl, sym, ap, ◌∙◌, ⊎_elim, arith}
 use Rattle.std.proofs.lemmas.Bool.{cases_lt}
 use Rattle.kernel_tree.specs.Bound.{or_zero}
-use Rattle.kernel_tree.specs.Code.{Array, Input, Output, Local as LocalArray, Private, Statement, Assigns, Loads, Stores, Syncs, start_value, stride_value, Code}
-use Rattle.kernel_tree.specs.Formula.{Formula, Ids}
+use Rattle.kernel_tree.specs.Code.{Array, Input, Output, Local as LocalArray, Private, Statement, Assigns, AssignsFour, Loads, LoadsFour, Stores, StoresFour, Syncs, start_value, stride_value, Code}
+use Rattle.kernel_tree.specs.Formula.{Formula, Lanes, Ids}
 use Rattle.kernel_tree.specs.Launch.{Launch, ids_of}
-use Rattle.lift_ir.specs.Types.{Ty, Scalar, PairOf, ArrayOf, width}
-use Rattle.lift_ir.specs.Terms.{LoadSet, Skip, Take, Each, Kind, Global, WorkGroup, Local, GlobalRows, WorkGroupRows, LocalRows, Sequential, Term, Literal, Bound, Apply, ApplyNumber, Select, Both, Project, LetElement, push}
+use Rattle.lift_ir.specs.Types.{Ty, Scalar, PairOf, ArrayOf}
+use Rattle.lift_ir.specs.Terms.{LoadSet, Skip, Take, TakeFour, Each, Kind, Global, WorkGroup, Local, GlobalRows, WorkGroupRows, LocalRows, Sequential, Term, Literal, Bound, Apply, ApplyNumber, ApplyLanes, DivideLanes, Select, Both, Project, LetElement, push}
 use Rattle.lift_ir.specs.Scalars.{by_side}
-use Rattle.printed_form.specs.Counts.{let_variables, load_count}
-use Rattle.printed_form.specs.Expressions.{held, exprs}
-use Rattle.printed_form.specs.Form.{start_of, stride_of, IsTurnOf, IsAssigned, IsReassigned, IsElementWork, IsSpot, IsStored, IsLoaded, IsLoop}
-use Rattle.printed_form.specs.Marks.{Mark, Nowhere, Register, Spot, Marks, held_marks, loaded_marks}
+use Rattle.printed_form.specs.Counts.{Count, more, held_count, let_variables, load_count}
+use Rattle.printed_form.specs.Expressions.{Expr, held, exprs}
+use Rattle.printed_form.specs.Form.{start_of, stride_of, IsTurnOf, IsAssigned, IsReassigned, IsElementWork, IsSpot, IsFourSpot, IsStored, IsLoaded, IsLoop}
+use Rattle.printed_form.specs.Marks.{Mark, Nowhere, Register, Lane, Spot, Marks, in_lanes, held_marks, loaded_marks}
 use Rattle.kernel_traffic.specs.Traffic.{turns_below, total_in}
 use Rattle.kernel_traffic.specs.Laws.{TurnsGoOneByOne}
 use Rattle.term_traffic.specs.Regions.{Region, NoMemory, InGlobal, InLocal, InPrivate, Regions, all_in, regions_left}
@@ -24,17 +24,21 @@ region_of (Output n) = InGlobal
 region_of (LocalArray n) = InLocal
 region_of (Private n) = InPrivate
 
--- a statement counts by the memory of its array; so much does a barrier
+-- a statement counts by the memory of its array, one of four cells four times; so much does a barrier
 pub record Counts (weight : Statement → ℕ) (load store : Region → ℕ) (sync : ℕ) : Type 0 where
   pub assigns : (v : ℕ) (e : Formula) → weight (Assigns v e) ≡ 0
+  pub assigns_four : (v : ℕ) (e : Lanes) → weight (AssignsFour v e) ≡ 0
   pub loads : (v : ℕ) (a : Array) (i : Formula) → weight (Loads v a i) ≡ load (region_of a)
+  pub loads_four : (v : ℕ) (a : Array) (i : Formula) → weight (LoadsFour v a i) ≡ 4 * load (region_of a)
   pub stores : (a : Array) (i e : Formula) → weight (Stores a i e) ≡ store (region_of a)
+  pub stores_four : (a : Array) (i : Formula) (e : Lanes) → weight (StoresFour a i e) ≡ 4 * store (region_of a)
   pub syncs : (a b : Bool) → weight (Syncs a b) ≡ sync
 
 -- where a mark's scalar lies
 abbrev pub mark_region : Mark → Region
 mark_region Nowhere = NoMemory
 mark_region (Register v) = NoMemory
+mark_region (Lane v j) = NoMemory
 mark_region (Spot a i) = region_of a
 
 -- marks that lie so
@@ -64,20 +68,26 @@ side_lies x y r s h g [] q = refl
 side_lies x y r s h g (false ∷ cs) q = h cs q
 side_lies x y r s h g (true ∷ cs) q = g cs q
 
-pub held_lies : (ty : Ty) (n : ℕ) → LieIn (held_marks ty n) (all_in NoMemory)
+lanes_lie : (v : ℕ) (q : List ℕ) → mark_region (in_lanes v q) ≡ NoMemory
+lanes_lie v [] = refl
+lanes_lie v (j ∷ []) = refl
+lanes_lie v (i ∷ j ∷ q) = refl
+
+pub held_lies : (ty : Ty) (n : Count) → LieIn (held_marks ty n) (all_in NoMemory)
 held_lies Scalar n cs q = refl
 held_lies (PairOf a b) n [] q = refl
 held_lies (PairOf a b) n (false ∷ cs) q = held_lies a n cs q
-held_lies (PairOf a b) n (true ∷ cs) q = held_lies b (n + width a) cs q
-held_lies (ArrayOf m t) n cs q = refl
+held_lies (PairOf a b) n (true ∷ cs) q = held_lies b (more n (held_count a)) cs q
+held_lies (ArrayOf m t) n cs q = lanes_lie n.fours q
 
-pub loaded_lies : (loads : LoadSet) (x : Marks) (r : Regions) (n : ℕ) → LieIn x r → LieIn (loaded_marks loads x n) (regions_left loads r)
+pub loaded_lies : (loads : LoadSet) (x : Marks) (r : Regions) (n : Count) → LieIn x r → LieIn (loaded_marks loads x n) (regions_left loads r)
 loaded_lies Skip x r n h = h
 loaded_lies Take x r n h = λ cs q. refl
+loaded_lies TakeFour x r n h = λ cs q. lanes_lie n.fours q
 loaded_lies (Each a b) x r n h =
-    side_lies (loaded_marks a (λ cs. x (false ∷ cs)) n) (loaded_marks b (λ cs. x (true ∷ cs)) (n + load_count a)) (regions_left a (λ cs. r (false ∷ cs))) (regions_left b (λ cs. r (true ∷ cs)))
+    side_lies (loaded_marks a (λ cs. x (false ∷ cs)) n) (loaded_marks b (λ cs. x (true ∷ cs)) (more n (load_count a))) (regions_left a (λ cs. r (false ∷ cs))) (regions_left b (λ cs. r (true ∷ cs)))
     (loaded_lies a (λ cs. x (false ∷ cs)) (λ cs. r (false ∷ cs)) n (λ cs q. h (false ∷ cs) q))
-    (loaded_lies b (λ cs. x (true ∷ cs)) (λ cs. r (true ∷ cs)) (n + load_count a) (λ cs q. h (true ∷ cs) q))
+    (loaded_lies b (λ cs. x (true ∷ cs)) (λ cs. r (true ∷ cs)) (more n (load_count a)) (λ cs q. h (true ∷ cs) q))
 
 module _ (weight : Statement → ℕ) (load store : Region → ℕ) (sync : ℕ) (counts : Counts weight load store sync) (l : Launch) (item : ℕ) where
   abbrev pub total : Code → ℕ
@@ -87,28 +97,30 @@ module _ (weight : Statement → ℕ) (load store : Region → ℕ) (sync : ℕ)
   abbrev pub Free : (code rest : Code) → Type 0
   Free code rest = total code ≡ total rest
 
-  pub assigned : (ty : Ty) (f : List Bool → Option Formula) (n : ℕ) (code rest : Code) → IsAssigned ty f n code rest → Free code rest
-  assigned Scalar f n code rest h = ap total h.2 ∙ ap (λ m. m + total rest) (counts.assigns n h.0) ∙ (let m = total rest in omega arith)
-  assigned (PairOf a b) f n code rest h = assigned a (λ cs. f (false ∷ cs)) n code h.0 h.1 ∙ assigned b (λ cs. f (true ∷ cs)) (n + width a) h.0 rest h.2
-  assigned (ArrayOf m t) f n code rest h = absurd h
+  pub assigned : (ty : Ty) (f : List Bool → Option Expr) (n : Count) (code rest : Code) → IsAssigned ty f n code rest → Free code rest
+  assigned Scalar f n code rest h = ap total h.2 ∙ ap (λ m. m + total rest) (counts.assigns n.words h.0) ∙ (let m = total rest in omega arith)
+  assigned (PairOf a b) f n code rest h = assigned a (λ cs. f (false ∷ cs)) n code h.0 h.1 ∙ assigned b (λ cs. f (true ∷ cs)) (more n (held_count a)) h.0 rest h.2
+  assigned (ArrayOf m t) f n code rest h = ap total h.3 ∙ ap (λ m. m + total rest) (counts.assigns_four n.fours h.1) ∙ (let m = total rest in omega arith)
 
-  pub reassigned : (ty : Ty) (f : List Bool → Option Formula) (acc n : ℕ) (code rest : Code) → IsReassigned ty f acc n code rest → Free code rest
+  pub reassigned : (ty : Ty) (f : List Bool → Option Expr) (acc n : Count) (code rest : Code) → IsReassigned ty f acc n code rest → Free code rest
   reassigned Scalar f acc n code rest h = assigned Scalar f acc code rest h
-  reassigned (PairOf a b) f acc n code rest h = assigned (PairOf a b) f n code h.0 h.1 ∙ assigned (PairOf a b) (λ cs. held (held_marks (PairOf a b) n cs [])) acc h.0 rest h.2
-  reassigned (ArrayOf m t) f acc n code rest h = absurd h
+  reassigned (PairOf a b) f acc n code rest h = assigned (PairOf a b) f n code h.0 h.1 ∙ assigned (PairOf a b) (λ cs. held (held_marks (PairOf a b) n cs)) acc h.0 rest h.2
+  reassigned (ArrayOf m t) f acc n code rest h = assigned (ArrayOf m t) f acc code rest h
 
-  pub element_work : {A : Type 0} (env : ℕ → Marks) (n : ℕ) (t : Term A) (code rest : Code) → IsElementWork env n t code rest → Free code rest
+  pub element_work : {A : Type 0} (env : ℕ → Marks) (n : Count) (t : Term A) (code rest : Code) → IsElementWork env n t code rest → Free code rest
   element_work env n (Literal c) code rest h = ap total h
   element_work env n (Bound v) code rest h = ap total h
-  element_work env n (Apply o a b) code rest h = element_work env n a code h.0 h.1 ∙ element_work env (n + let_variables a) b h.0 rest h.2
+  element_work env n (Apply o a b) code rest h = element_work env n a code h.0 h.1 ∙ element_work env (more n (let_variables a)) b h.0 rest h.2
   element_work env n (ApplyNumber o m a) code rest h = element_work env n a code rest h
+  element_work env n (ApplyLanes o l r a b) code rest h = element_work env n a code h.0 h.1 ∙ element_work env (more n (let_variables a)) b h.0 rest h.2
+  element_work env n (DivideLanes o m a) code rest h = element_work env n a code rest h
   element_work env n (Select c a b) code rest h =
-      element_work env n c code h.0 h.2 ∙ element_work env (n + let_variables c) a h.0 h.1 h.3 ∙ element_work env (n + let_variables c + let_variables a) b h.1 rest h.4
-  element_work env n (Both zips a b) code rest h = element_work env n a code h.0 h.1 ∙ element_work env (n + let_variables a) b h.0 rest h.2
+      element_work env n c code h.0 h.2 ∙ element_work env (more n (let_variables c)) a h.0 h.1 h.3 ∙ element_work env (more (more n (let_variables c)) (let_variables a)) b h.1 rest h.4
+  element_work env n (Both zips a b) code rest h = element_work env n a code h.0 h.1 ∙ element_work env (more n (let_variables a)) b h.0 rest h.2
   element_work env n (Project s a) code rest h = element_work env n a code rest h
   element_work env n (LetElement ty v b) code rest h =
-      element_work env n v code h.0 h.2 ∙ assigned ty (exprs env n v) (n + let_variables v) h.0 h.1 h.3
-      ∙ element_work (push (held_marks ty (n + let_variables v)) env) (n + let_variables v + width ty) b h.1 rest h.4
+      element_work env n v code h.0 h.2 ∙ assigned ty (exprs env n v) (more n (let_variables v)) h.0 h.1 h.3
+      ∙ element_work (push (held_marks ty (more n (let_variables v))) env) (more (more n (let_variables v)) (held_count ty)) b h.1 rest h.4
   element_work env n _ code rest h = absurd h
 
   module _ (ins : ℕ → Marks) where
@@ -117,22 +129,29 @@ module _ (weight : Statement → ℕ) (load store : Region → ℕ) (sync : ℕ)
     spot_of ts (Spot a n) b i h = ap region_of h.0
     spot_of ts _ b i h = absurd h
 
-    pub stored : (ts : List ℕ) (ty : Ty) (f : List Bool → Option Formula) (w : Marks) (r : Regions) (code rest : Code) → LieIn w r → IsStored l item ins ts ty f w code rest → total code ≡ stores_in store ty r + total rest
+    -- and the offset of four cells
+    four_spot_of : (ts : List ℕ) (x : List ℕ → Mark) (b : Array) (i : Formula) → IsFourSpot l item ins ts x b i → region_of b ≡ mark_region (x (0 ∷ []))
+    four_spot_of ts x b i h = sym (ap mark_region (h.1.at 0 (omega arith)))
+
+    pub stored : (ts : List ℕ) (ty : Ty) (f : List Bool → Option Expr) (w : Marks) (r : Regions) (code rest : Code) → LieIn w r → IsStored l item ins ts ty f w code rest → total code ≡ stores_in store ty r + total rest
     stored ts Scalar f w r code rest lie h =
         ap total h.5 ∙ ap (λ m. m + total rest) (counts.stores h.0 h.1 h.2 ∙ ap store (spot_of ts (w [] []) h.0 h.1 h.4 ∙ lie [] []))
     stored ts (PairOf a b) f w r code rest lie h =
         let first = stored ts a (λ cs. f (false ∷ cs)) (λ cs. w (false ∷ cs)) (λ cs. r (false ∷ cs)) code h.0 (λ cs q. lie (false ∷ cs) q) h.1 in
         let second = stored ts b (λ cs. f (true ∷ cs)) (λ cs. w (true ∷ cs)) (λ cs. r (true ∷ cs)) h.0 rest (λ cs q. lie (true ∷ cs) q) h.2 in
         omega arith
-    stored ts (ArrayOf m t) f w r code rest lie h = absurd h
+    stored ts (ArrayOf m t) f w r code rest lie h =
+        ap total h.6 ∙ ap (λ m. m + total rest) (counts.stores_four h.1 h.2 h.3 ∙ ap (λ s. 4 * store s) (four_spot_of ts (w []) h.1 h.2 h.5 ∙ lie [] (0 ∷ [])))
 
-    pub loaded : (ts : List ℕ) (loads : LoadSet) (x : Marks) (r : Regions) (n : ℕ) (code rest : Code) → LieIn x r → IsLoaded l item ins ts loads x n code rest → total code ≡ loads_in load loads r + total rest
+    pub loaded : (ts : List ℕ) (loads : LoadSet) (x : Marks) (r : Regions) (n : Count) (code rest : Code) → LieIn x r → IsLoaded l item ins ts loads x n code rest → total code ≡ loads_in load loads r + total rest
     loaded ts Skip x r n code rest lie h = ap total h ∙ (let m = total rest in omega arith)
     loaded ts Take x r n code rest lie h =
-        ap total h.3 ∙ ap (λ m. m + total rest) (counts.loads n h.0 h.1 ∙ ap load (spot_of ts (x [] []) h.0 h.1 h.2 ∙ lie [] []))
+        ap total h.3 ∙ ap (λ m. m + total rest) (counts.loads n.words h.0 h.1 ∙ ap load (spot_of ts (x [] []) h.0 h.1 h.2 ∙ lie [] []))
+    loaded ts TakeFour x r n code rest lie h =
+        ap total h.3 ∙ ap (λ m. m + total rest) (counts.loads_four n.fours h.0 h.1 ∙ ap (λ s. 4 * load s) (four_spot_of ts (x []) h.0 h.1 h.2 ∙ lie [] (0 ∷ [])))
     loaded ts (Each a b) x r n code rest lie h =
         let first = loaded ts a (λ cs. x (false ∷ cs)) (λ cs. r (false ∷ cs)) n code h.0 (λ cs q. lie (false ∷ cs) q) h.1 in
-        let second = loaded ts b (λ cs. x (true ∷ cs)) (λ cs. r (true ∷ cs)) (n + load_count a) h.0 rest (λ cs q. lie (true ∷ cs) q) h.2 in
+        let second = loaded ts b (λ cs. x (true ∷ cs)) (λ cs. r (true ∷ cs)) (more n (load_count a)) h.0 rest (λ cs q. lie (true ∷ cs) q) h.2 in
         omega arith
 
     -- a loop counts its turns times what each counts that the item takes

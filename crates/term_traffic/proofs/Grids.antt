@@ -12,7 +12,7 @@ use Rattle.lift_ir.specs.Layouts.{result_position}
 use Rattle.lift_ir.specs.Terms.{LoadSet, WorkGroup, Local, WorkGroupRows, LocalRows, LocalMemory, PrivateMemory, Term, Bound, Source, Both, Project, Reshape, LetArray, Map, Copy, push}
 use Rattle.lift_ir.specs.Scalars.{at_index}
 use Rattle.printed_form.specs.Arguments.{marks_in, local_arrays}
-use Rattle.printed_form.specs.Counts.{load_count, variable_count, private_count, local_count}
+use Rattle.printed_form.specs.Counts.{Count, more, no_variables, load_count, variable_count, private_count, local_count}
 use Rattle.printed_form.specs.Form.{argument_marks}
 use Rattle.printed_form.specs.MapForms.{MapForm, form_over_groups, variables_in}
 use Rattle.printed_form.specs.Marks.{Marks, laid_in, loaded_marks}
@@ -70,7 +70,7 @@ module _ (weight : Statement → ℕ) (load store : Region → ℕ) (sync : ℕ)
 
   module _ {A : Type 0} (num : A → ℕ) (forms : GridForms A) (make : MakeGridTurns forms num l) where
     -- a map along a row of a group
-    along_row : (k a n : ℕ) (env : ℕ → Marks) (regions : ℕ → Regions) (t : Term A) (w : Marks) (r : Regions) (ts : List ℕ) (row : ℕ) (code rest : Code) → StandsAlongRow t → HasShortLoops num t → AllLieIn env regions → LieIn w r → IsAlongRow num forms l ins item k a n env t w ts row code rest
+    along_row : (k a : ℕ) (n : Count) (env : ℕ → Marks) (regions : ℕ → Regions) (t : Term A) (w : Marks) (r : Regions) (ts : List ℕ) (row : ℕ) (code rest : Code) → StandsAlongRow t → HasShortLoops num t → AllLieIn env regions → LieIn w r → IsAlongRow num forms l ins item k a n env t w ts row code rest
         → total weight load store sync counts l item code ≡ written_traffic load store num (ids_of l item) regions t r + total weight load store sync counts l item rest
     along_row k a n env regions (Reshape y t) w r ts row code rest stand few all goes h =
         along_row k a n env regions t (λ cs p. w cs (result_position num y p)) r ts row code rest stand.1 few all (λ cs p. goes cs (result_position num y p)) h.1
@@ -79,9 +79,9 @@ module _ (weight : Statement → ℕ) (load store : Region → ℕ) (sync : ℕ)
         let lie = argument_lies num ins inputs LocalMemory env regions k xs all (of_inputs LocalMemory xs stand.0) in
         let made = turned weight load store sync counts l item turning (FromLocalId X) (ByLocalSize X) column_below (num m) _ (loads_in load loads (regions_of regions xs) + written_traffic load store num (ids_of l item) (push (regions_left loads (regions_of regions xs)) regions) b r) ts
         (λ us j lt before after t.
-        let one = loaded weight load store sync counts l item ins us loads (at_index j (marks_in local_arrays num ins env k xs)) (regions_of regions xs) (n + variable_count xs) before t.0 (λ cs q. lie cs (j ∷ q)) t.1 in
-        let two = written_counts weight load store sync counts l item ins inputs turning num us (push (loaded_marks loads (at_index j (marks_in local_arrays num ins env k xs)) (n + variable_count xs)) env) (push (regions_left loads (regions_of regions xs)) regions) (a + private_count xs) (n + variable_count xs + load_count loads) b (at_index j w) r t.0 after
-        (pushed (loaded_marks loads (at_index j (marks_in local_arrays num ins env k xs)) (n + variable_count xs)) (regions_left loads (regions_of regions xs)) env regions (loaded_lies loads (at_index j (marks_in local_arrays num ins env k xs)) (regions_of regions xs) (n + variable_count xs) (λ cs q. lie cs (j ∷ q))) all)
+        let one = loaded weight load store sync counts l item ins us loads (at_index j (marks_in local_arrays num ins env k xs)) (regions_of regions xs) (more n (variable_count xs)) before t.0 (λ cs q. lie cs (j ∷ q)) t.1 in
+        let two = written_counts weight load store sync counts l item ins inputs turning num us (push (loaded_marks loads (at_index j (marks_in local_arrays num ins env k xs)) (more n (variable_count xs))) env) (push (regions_left loads (regions_of regions xs)) regions) (a + private_count xs) (more (more n (variable_count xs)) (load_count loads)) b (at_index j w) r t.0 after
+        (pushed (loaded_marks loads (at_index j (marks_in local_arrays num ins env k xs)) (more n (variable_count xs))) (regions_left loads (regions_of regions xs)) env regions (loaded_lies loads (at_index j (marks_in local_arrays num ins env k xs)) (regions_of regions xs) (more n (variable_count xs)) (λ cs q. lie cs (j ∷ q))) all)
         (λ cs q. goes cs (j ∷ q)) t.2 in
         omega arith) (forms.columns.local m) (make.columns m few.0) code rest h in
         omega arith
@@ -97,7 +97,7 @@ module _ (weight : Statement → ℕ) (load store : Region → ℕ) (sync : ℕ)
           turned weight load store sync counts l item turning (FromLocalId Y) (ByLocalSize Y) row_below (num n) _ (loads_in load loads from + written_traffic load store num (ids_of l item) (push (regions_left loads from) regions) b r) (around_turn num forms l ins fence rows_form columns_form grid i)
           (λ ts j lt before after t.
           let one = loaded weight load store sync counts l item ins ts loads (at_index j (marks i)) from u.variables before t.0 (λ cs q. lie cs (j ∷ q)) t.1 in
-          let two = along_row u.locals u.privates (u.variables + load_count loads) (push (loaded_marks loads (at_index j (marks i)) u.variables) (env i)) (push (regions_left loads from) regions) b (at_index j (w i)) r ts j t.0 after stand few
+          let two = along_row u.locals u.privates (more u.variables (load_count loads)) (push (loaded_marks loads (at_index j (marks i)) u.variables) (env i)) (push (regions_left loads from) regions) b (at_index j (w i)) r ts j t.0 after stand few
           (pushed (loaded_marks loads (at_index j (marks i)) u.variables) (regions_left loads from) (env i) regions (loaded_lies loads (at_index j (marks i)) from u.variables (λ cs q. lie cs (j ∷ q))) all)
           (λ cs q. goes cs (j ∷ q)) t.2 in
           omega arith) (forms.rows.local n) (make.rows n short) code rest (h item i within below in_row in_column)
@@ -160,18 +160,18 @@ module _ (weight : Statement → ℕ) (load store : Region → ℕ) (sync : ℕ)
         grid_written env regions u _ w r code rest stand few all goes h = absurd stand
 
       -- what a turn of the maps over groups counts
-      turn_counts : (n : ℕ) (env : (turn var : ℕ) → Marks) (regions : ℕ → Regions) (loads : LoadSet) (marks : ℕ → Marks) (from : Regions) (b : Term A) (w : (turn : ℕ) → Marks) (r : Regions) (body : Code)
+      turn_counts : (n : Count) (env : (turn var : ℕ) → Marks) (regions : ℕ → Regions) (loads : LoadSet) (marks : ℕ → Marks) (from : Regions) (b : Term A) (w : (turn : ℕ) → Marks) (r : Regions) (body : Code)
           → StandsInGrid true b → HasShortLoops num b → AllLieIn (env i) regions → LieIn (marks i) from → LieIn (w i) r → IsGridTurn num forms l ins fence rows_form columns_form grid n env loads marks b w body
           → total weight load store sync counts l item body ≡ loads_in load loads from + written_traffic load store num (ids_of l item) (push (regions_left loads from) regions) b r + sync * barriers_to fence (suc (phases_in b))
       turn_counts n env regions loads marks from b w r body stand few all lie goes h =
           let one = loaded weight load store sync counts l item ins (around_turn num forms l ins fence rows_form columns_form grid i) loads (marks i) from n body h.0 lie (h.2 item i within below in_row in_column) in
           let two = grid_written (λ j. push (loaded_marks loads (marks j) n) (env j)) (push (regions_left loads from) regions)
-          (record { locals = 0; privates = 0; variables = n + load_count loads; phases = 0 }) b w r h.0 h.1 stand few
+          (record { locals = 0; privates = 0; variables = more n (load_count loads); phases = 0 }) b w r h.0 h.1 stand few
           (pushed (loaded_marks loads (marks i) n) (regions_left loads from) (env i) regions (loaded_lies loads (marks i) from n lie) all) goes h.3 in
           let last = past weight load store sync counts l item (fence (phases_in b)) h.1 End h.4 in
           let none : sync * barriers_to fence 0 ≡ 0 = omega arith in
           let here : sync * barriers_to fence (0 + phases_in b) ≡ sync * barriers_to fence (phases_in b) = ap (λ z. sync * barriers_to fence z) (let e : 0 + phases_in b ≡ phases_in b = omega arith in e) in
-          let more = distributed (barriers_to fence (phases_in b)) (bit (stands (fence (phases_in b)))) in
+          let added = distributed (barriers_to fence (phases_in b)) (bit (stands (fence (phases_in b)))) in
           omega arith
 
     parted : (t m s : ℕ) → t * (m + sync * s) ≡ t * m + sync * (t * s)
@@ -179,7 +179,7 @@ module _ (weight : Statement → ℕ) (load store : Region → ℕ) (sync : ℕ)
 
     module _ (fence : ℕ → Fencing) where
       -- a map over the groups of a row, at one of its group's rows
-      along_groups : (rows_form : MapForm) (rows n : ℕ) (env : (row var : ℕ) → Marks) (regions : ℕ → Regions) (t : Term A) (w : (row : ℕ) → Marks) (r : Regions) (code : Code) (row : ℕ) → row < rows → IsGroupRow l item row → StandsAlongGroups t → HasShortLoops num t → ((q : ℕ) → AllLieIn (env q) regions) → ((q : ℕ) → LieIn (w q) r)
+      along_groups : (rows_form : MapForm) (rows : ℕ) (n : Count) (env : (row var : ℕ) → Marks) (regions : ℕ → Regions) (t : Term A) (w : (row : ℕ) → Marks) (r : Regions) (code : Code) (row : ℕ) → row < rows → IsGroupRow l item row → StandsAlongGroups t → HasShortLoops num t → ((q : ℕ) → AllLieIn (env q) regions) → ((q : ℕ) → LieIn (w q) r)
           → IsAlongGroups num forms l ins fence rows_form rows n env t w code
           → total weight load store sync counts l item code ≡ written_traffic load store num (ids_of l item) regions t r + sync * (row_turns num (ids_of l item) t * barriers_to fence (suc (phases_along t)))
       along_groups rows_form rows n env regions (Reshape y t) w r code row inside in_row stand few all goes h =
@@ -218,9 +218,9 @@ module _ (weight : Statement → ℕ) (load store : Region → ℕ) (sync : ℕ)
           let made = over_form weight load store sync counts l item turning (FromGroupId Y) (ByGroupCount Y) some_rows (forms.rows.once n) (num n) (make.one_row n) h.0 h.1
           (loads_in load loads (regions_of regions xs) + written_traffic load store num (ids_of l item) (push (regions_left loads (regions_of regions xs)) regions) b r + sync * (row_turns num (ids_of l item) b * barriers_to fence (suc (phases_along b)))) h.4
           (λ j lt turn.
-          let one = loaded weight load store sync counts l item ins (variables_in (form_over_groups (forms.rows.once n)) [] j) loads (at_index j (argument_marks l ins num env 0 xs)) (regions_of regions xs) 0 h.1 h.2 (λ cs q. lie cs (j ∷ q)) (h.5 item j within lt turn) in
-          let two = along_groups (form_over_groups (forms.rows.once n)) (num n) (load_count loads) (λ q. push (loaded_marks loads (at_index q (argument_marks l ins num env 0 xs)) 0) env) (push (regions_left loads (regions_of regions xs)) regions) b (λ q. at_index q w) r h.2 j lt turn stand.1 few.2
-          (λ q. pushed (loaded_marks loads (at_index q (argument_marks l ins num env 0 xs)) 0) (regions_left loads (regions_of regions xs)) env regions (loaded_lies loads (at_index q (argument_marks l ins num env 0 xs)) (regions_of regions xs) 0 (λ cs p. lie cs (q ∷ p))) all)
+          let one = loaded weight load store sync counts l item ins (variables_in (form_over_groups (forms.rows.once n)) [] j) loads (at_index j (argument_marks l ins num env 0 xs)) (regions_of regions xs) no_variables h.1 h.2 (λ cs q. lie cs (j ∷ q)) (h.5 item j within lt turn) in
+          let two = along_groups (form_over_groups (forms.rows.once n)) (num n) (load_count loads) (λ q. push (loaded_marks loads (at_index q (argument_marks l ins num env 0 xs)) no_variables) env) (push (regions_left loads (regions_of regions xs)) regions) b (λ q. at_index q w) r h.2 j lt turn stand.1 few.2
+          (λ q. pushed (loaded_marks loads (at_index q (argument_marks l ins num env 0 xs)) no_variables) (regions_left loads (regions_of regions xs)) env regions (loaded_lies loads (at_index q (argument_marks l ins num env 0 xs)) (regions_of regions xs) no_variables (λ cs p. lie cs (q ∷ p))) all)
           (λ q cs p. goes cs (q ∷ p)) h.6 in
           omega arith) in
           let is = ap (total weight load store sync counts l item) h.3 in

@@ -12,7 +12,7 @@ use Rattle.lift_ir.specs.Types.{Ty}
 use Rattle.lift_ir.specs.Layouts.{result_position}
 use Rattle.lift_ir.specs.Terms.{LoadSet, Global, WorkGroup, Local, GlobalRows, WorkGroupRows, LocalRows, Sequential, Space, LocalMemory, PrivateMemory, Term, Bound, Source, Both, Project, Reshape, LetArray, Map, Copy, push}
 use Rattle.lift_ir.specs.Scalars.{at_index}
-use Rattle.printed_form.specs.Counts.{load_count, local_count}
+use Rattle.printed_form.specs.Counts.{more, no_variables, load_count, local_count}
 use Rattle.printed_form.specs.Form.{argument_marks, IsTurnOf}
 use Rattle.printed_form.specs.MapForms.{MapForm, Looped, Guarded, Alone, MapForms, form_over_groups, statement_over_groups, variables_in, MakesTurns, MakeTurns, TurnCode, AreTurns}
 use Rattle.printed_form.specs.Marks.{Marks, laid_in, loaded_marks}
@@ -113,7 +113,7 @@ module _ (weight : Statement → ℕ) (load store : Region → ℕ) (sync : ℕ)
         local_turned (num n) _ (loads_in load loads from + written_traffic load store num (ids_of l item) (push (regions_left loads from) regions) b r) (variables_in outer [] i)
         (λ ts j lt body last t.
         let one = loaded weight load store sync counts l item ins ts loads (at_index j (marks i)) from u.variables body t.0 (λ cs q. lie cs (j ∷ q)) t.1 in
-        let two = written_counts weight load store sync counts l item ins inputs turning num ts (push (loaded_marks loads (at_index j (marks i)) u.variables) (env i)) (push (regions_left loads from) regions) u.privates (u.variables + load_count loads) b (at_index j (w i)) r t.0 last
+        let two = written_counts weight load store sync counts l item ins inputs turning num ts (push (loaded_marks loads (at_index j (marks i)) u.variables) (env i)) (push (regions_left loads from) regions) u.privates (more u.variables (load_count loads)) b (at_index j (w i)) r t.0 last
         (pushed (loaded_marks loads (at_index j (marks i)) u.variables) (regions_left loads from) (env i) regions (loaded_lies loads (at_index j (marks i)) from u.variables (λ cs q. lie cs (j ∷ q))) all)
         (λ cs q. goes cs (j ∷ q)) t.2 in
         omega arith) (forms.local n) (make.local n short) code rest (h item i within below turn)
@@ -176,15 +176,15 @@ module _ (weight : Statement → ℕ) (load store : Region → ℕ) (sync : ℕ)
     turn_counts : (outer : MapForm) (turns i : ℕ) → i < turns → IsTurnOf l item WorkGroup i → (env : ℕ → Marks) (regions : ℕ → Regions) (loads : LoadSet) (marks : Marks) (from : Regions) (b : Term A) (w : Marks) (r : Regions) (body : Code)
         → HasShortLoops num b → AllLieIn env regions → LieIn marks from → LieIn w r → IsGroupTurn num forms l ins fence outer turns env loads marks b w body → total weight load store sync counts l item body ≡ each_turn regions loads from b r
     turn_counts outer turns i below turn env regions loads marks from b w r body few all lie goes h =
-        let one = loaded weight load store sync counts l item ins (variables_in outer [] i) loads (at_index i marks) from 0 body h.0 (λ cs q. lie cs (i ∷ q)) (h.2 item i within below turn) in
-        let inner = λ (j : ℕ). push (loaded_marks loads (at_index j marks) 0) env in
-        let two = group_written num forms make fence outer turns i below turn (λ j. push (loaded_marks loads (at_index j marks) 0) env) (push (regions_left loads from) regions)
+        let one = loaded weight load store sync counts l item ins (variables_in outer [] i) loads (at_index i marks) from no_variables body h.0 (λ cs q. lie cs (i ∷ q)) (h.2 item i within below turn) in
+        let inner = λ (j : ℕ). push (loaded_marks loads (at_index j marks) no_variables) env in
+        let two = group_written num forms make fence outer turns i below turn (λ j. push (loaded_marks loads (at_index j marks) no_variables) env) (push (regions_left loads from) regions)
         (record { locals = 0; privates = 0; variables = load_count loads; phases = 0 }) b (λ j. at_index j w) r h.0 h.1 few
-        (pushed (loaded_marks loads (at_index i marks) 0) (regions_left loads from) env regions (loaded_lies loads (at_index i marks) from 0 (λ cs q. lie cs (i ∷ q))) all) (λ cs q. goes cs (i ∷ q)) h.3 in
+        (pushed (loaded_marks loads (at_index i marks) no_variables) (regions_left loads from) env regions (loaded_lies loads (at_index i marks) from no_variables (λ cs q. lie cs (i ∷ q))) all) (λ cs q. goes cs (i ∷ q)) h.3 in
         let last = past weight load store sync counts l item (fence (phases_in b)) h.1 End h.4 in
         let none : sync * barriers_to fence 0 ≡ 0 = omega arith in
         let here : sync * barriers_to fence (0 + phases_in b) ≡ sync * barriers_to fence (phases_in b) = ap (λ z. sync * barriers_to fence z) (let e : 0 + phases_in b ≡ phases_in b = omega arith in e) in
-        let more = distributed num forms make fence outer turns i below turn (barriers_to fence (phases_in b)) (bit (stands (fence (phases_in b)))) in
+        let added = distributed num forms make fence outer turns i below turn (barriers_to fence (phases_in b)) (bit (stands (fence (phases_in b)))) in
         omega arith
 
     same_statement : (once_only : Bool) (bound : Formula) (body : Code) → statement_over_groups once_only bound body ≡ statement_of (form_over_groups once_only) (FromGroupId X) (ByGroupCount X) bound body

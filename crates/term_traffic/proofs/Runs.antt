@@ -3,7 +3,7 @@ use Rattle.std.proofs.Common.{◌≡◌, ℕ, zero, suc, ◌+◌, ◌*◌, ◌<�
 use Rattle.std.specs.Prelude.{◌&&◌}
 use Rattle.size_arith.specs.declared.poly.Monomial.{Monomial}
 use Rattle.kernel_tree.specs.Code as code
-use Rattle.kernel_tree.specs.Formula.{Formula}
+use Rattle.kernel_tree.specs.Formula.{Formula, Lanes}
 use Rattle.kernel_tree.specs.Code.{Array, Input, Output, Local as LocalArray, Private, Statement, Code, End, Kernel}
 use Rattle.kernel_tree.specs.Faults.{accesses}
 use Rattle.kernel_tree.specs.Launch.{Launch, IsWhole, item_count, ids_of}
@@ -19,6 +19,7 @@ use Rattle.lift_ir.specs.Forms.{Stands, StandsOverLaunch}
 use Rattle.lift_ir.specs.Lowering.{Lowered}
 use Rattle.lift_ir.specs.Terms.{Global, WorkGroup, Local, GlobalRows, WorkGroupRows, LocalRows, Sequential, Term, Reshape, LetArray, Map, no_type}
 use Rattle.lift_ir.specs.Types.{Ty, measured}
+use Rattle.printed_form.specs.Counts.{no_variables}
 use Rattle.printed_form.specs.Marks.{Marks}
 use Rattle.printed_form.specs.Printer.{input_marks}
 use Rattle.printed_form.specs.Programs.{lowered_root, first_buffer, input_shape, IsLaunchOf, IsLowerableProgram, StandsAt}
@@ -62,13 +63,33 @@ abbrev local_writes : Accesses
 local_writes a w = is_local a && w
 
 global_reads_count : Counts (accesses_in global_reads) in_global uncounted 0
-global_reads_count = record { assigns = λ v e. refl; loads = λ v a i. load v a i; stores = λ a i e. store a i e; syncs = λ a b. refl }
+global_reads_count = record {
+  assigns = λ v e. refl;
+  assigns_four = λ v e. refl;
+  loads = λ v a i. load v a i;
+  loads_four = λ v a i. load_four v a i;
+  stores = λ a i e. store a i e;
+  stores_four = λ a i e. store_four a i e;
+  syncs = λ a b. refl;
+}
   where
     load : (v : ℕ) (a : Array) (i : Formula) → accesses_in global_reads (code.Loads v a i) ≡ in_global (region_of a)
     load v (Input n) i = refl
     load v (Output n) i = refl
     load v (LocalArray n) i = refl
     load v (Private n) i = refl
+
+    load_four : (v : ℕ) (a : Array) (i : Formula) → accesses_in global_reads (code.LoadsFour v a i) ≡ 4 * in_global (region_of a)
+    load_four v (Input n) i = refl
+    load_four v (Output n) i = refl
+    load_four v (LocalArray n) i = refl
+    load_four v (Private n) i = refl
+
+    store_four : (a : Array) (i : Formula) (e : Lanes) → accesses_in global_reads (code.StoresFour a i e) ≡ 4 * 0
+    store_four (Input n) i e = refl
+    store_four (Output n) i e = refl
+    store_four (LocalArray n) i e = refl
+    store_four (Private n) i e = refl
 
     store : (a : Array) (i e : Formula) → accesses_in global_reads (code.Stores a i e) ≡ 0
     store (Input n) i e = refl
@@ -77,13 +98,33 @@ global_reads_count = record { assigns = λ v e. refl; loads = λ v a i. load v a
     store (Private n) i e = refl
 
 global_writes_count : Counts (accesses_in global_writes) uncounted in_global 0
-global_writes_count = record { assigns = λ v e. refl; loads = λ v a i. load v a i; stores = λ a i e. store a i e; syncs = λ a b. refl }
+global_writes_count = record {
+  assigns = λ v e. refl;
+  assigns_four = λ v e. refl;
+  loads = λ v a i. load v a i;
+  loads_four = λ v a i. load_four v a i;
+  stores = λ a i e. store a i e;
+  stores_four = λ a i e. store_four a i e;
+  syncs = λ a b. refl;
+}
   where
     load : (v : ℕ) (a : Array) (i : Formula) → accesses_in global_writes (code.Loads v a i) ≡ 0
     load v (Input n) i = refl
     load v (Output n) i = refl
     load v (LocalArray n) i = refl
     load v (Private n) i = refl
+
+    load_four : (v : ℕ) (a : Array) (i : Formula) → accesses_in global_writes (code.LoadsFour v a i) ≡ 4 * 0
+    load_four v (Input n) i = refl
+    load_four v (Output n) i = refl
+    load_four v (LocalArray n) i = refl
+    load_four v (Private n) i = refl
+
+    store_four : (a : Array) (i : Formula) (e : Lanes) → accesses_in global_writes (code.StoresFour a i e) ≡ 4 * in_global (region_of a)
+    store_four (Input n) i e = refl
+    store_four (Output n) i e = refl
+    store_four (LocalArray n) i e = refl
+    store_four (Private n) i e = refl
 
     store : (a : Array) (i e : Formula) → accesses_in global_writes (code.Stores a i e) ≡ in_global (region_of a)
     store (Input n) i e = refl
@@ -92,13 +133,33 @@ global_writes_count = record { assigns = λ v e. refl; loads = λ v a i. load v 
     store (Private n) i e = refl
 
 local_reads_count : Counts (accesses_in local_reads) in_local uncounted 0
-local_reads_count = record { assigns = λ v e. refl; loads = λ v a i. load v a i; stores = λ a i e. store a i e; syncs = λ a b. refl }
+local_reads_count = record {
+  assigns = λ v e. refl;
+  assigns_four = λ v e. refl;
+  loads = λ v a i. load v a i;
+  loads_four = λ v a i. load_four v a i;
+  stores = λ a i e. store a i e;
+  stores_four = λ a i e. store_four a i e;
+  syncs = λ a b. refl;
+}
   where
     load : (v : ℕ) (a : Array) (i : Formula) → accesses_in local_reads (code.Loads v a i) ≡ in_local (region_of a)
     load v (Input n) i = refl
     load v (Output n) i = refl
     load v (LocalArray n) i = refl
     load v (Private n) i = refl
+
+    load_four : (v : ℕ) (a : Array) (i : Formula) → accesses_in local_reads (code.LoadsFour v a i) ≡ 4 * in_local (region_of a)
+    load_four v (Input n) i = refl
+    load_four v (Output n) i = refl
+    load_four v (LocalArray n) i = refl
+    load_four v (Private n) i = refl
+
+    store_four : (a : Array) (i : Formula) (e : Lanes) → accesses_in local_reads (code.StoresFour a i e) ≡ 4 * 0
+    store_four (Input n) i e = refl
+    store_four (Output n) i e = refl
+    store_four (LocalArray n) i e = refl
+    store_four (Private n) i e = refl
 
     store : (a : Array) (i e : Formula) → accesses_in local_reads (code.Stores a i e) ≡ 0
     store (Input n) i e = refl
@@ -107,13 +168,33 @@ local_reads_count = record { assigns = λ v e. refl; loads = λ v a i. load v a 
     store (Private n) i e = refl
 
 local_writes_count : Counts (accesses_in local_writes) uncounted in_local 0
-local_writes_count = record { assigns = λ v e. refl; loads = λ v a i. load v a i; stores = λ a i e. store a i e; syncs = λ a b. refl }
+local_writes_count = record {
+  assigns = λ v e. refl;
+  assigns_four = λ v e. refl;
+  loads = λ v a i. load v a i;
+  loads_four = λ v a i. load_four v a i;
+  stores = λ a i e. store a i e;
+  stores_four = λ a i e. store_four a i e;
+  syncs = λ a b. refl;
+}
   where
     load : (v : ℕ) (a : Array) (i : Formula) → accesses_in local_writes (code.Loads v a i) ≡ 0
     load v (Input n) i = refl
     load v (Output n) i = refl
     load v (LocalArray n) i = refl
     load v (Private n) i = refl
+
+    load_four : (v : ℕ) (a : Array) (i : Formula) → accesses_in local_writes (code.LoadsFour v a i) ≡ 4 * 0
+    load_four v (Input n) i = refl
+    load_four v (Output n) i = refl
+    load_four v (LocalArray n) i = refl
+    load_four v (Private n) i = refl
+
+    store_four : (a : Array) (i : Formula) (e : Lanes) → accesses_in local_writes (code.StoresFour a i e) ≡ 4 * in_local (region_of a)
+    store_four (Input n) i e = refl
+    store_four (Output n) i e = refl
+    store_four (LocalArray n) i e = refl
+    store_four (Private n) i e = refl
 
     store : (a : Array) (i e : Formula) → accesses_in local_writes (code.Stores a i e) ≡ in_local (region_of a)
     store (Input n) i e = refl
@@ -122,7 +203,15 @@ local_writes_count = record { assigns = λ v e. refl; loads = λ v a i. load v a
     store (Private n) i e = refl
 
 barriers_count : Counts barriers_in uncounted uncounted 1
-barriers_count = record { assigns = λ v e. refl; loads = λ v a i. refl; stores = λ a i e. refl; syncs = λ a b. refl }
+barriers_count = record {
+  assigns = λ v e. refl;
+  assigns_four = λ v e. refl;
+  loads = λ v a i. refl;
+  loads_four = λ v a i. refl;
+  stores = λ a i e. refl;
+  stores_four = λ a i e. refl;
+  syncs = λ a b. refl;
+}
 
 -- where no map is over work-groups no group is released
 
@@ -217,9 +306,9 @@ module _ (d : Declared) (asks : Asks) (bases : List ℕ) (t : Tree) (a : Annotat
     by_items fence stand (inl (one, h)) =
         let zeroth : 0 ≡ j = omega arith in
         subst (λ i. Counted fence i k.code) zeroth
-        (nothing_more fence 0 (none 0 stand) k.code (written_counts weight load store sync counts l 0 ins inputs_lie turning num [] no_marks (λ v. all_in NoMemory) 0 0 low (output_marks result) (all_in InGlobal) k.code End nowhere outputs_lie h))
+        (nothing_more fence 0 (none 0 stand) k.code (written_counts weight load store sync counts l 0 ins inputs_lie turning num [] no_marks (λ v. all_in NoMemory) 0 no_variables low (output_marks result) (all_in InGlobal) k.code End nowhere outputs_lie h))
     by_items fence stand (inr h) =
-        nothing_more fence j (none j stand) k.code (launch_counts weight load store sync counts l j ins inputs_lie turning num no_marks (λ v. all_in NoMemory) 0 0 low (output_marks result) (all_in InGlobal) k.code End nowhere outputs_lie (h j within))
+        nothing_more fence j (none j stand) k.code (launch_counts weight load store sync counts l j ins inputs_lie turning num no_marks (λ v. all_in NoMemory) 0 no_variables low (output_marks result) (all_in InGlobal) k.code End nowhere outputs_lie (h j within))
 
     -- barriers that are the same to the end of a turn are as many
     same_releases : (one other : ℕ → Fencing) (m : ℕ) → turn_phases low ≡ m → ((q : ℕ) → q < suc m → one q ≡ other q)

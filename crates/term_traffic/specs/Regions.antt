@@ -1,7 +1,7 @@
 -- In which memory the scalars of a term lie.
 use Rattle.std.specs.Prelude.{ℕ, Bool, true, false, List, ◌∷◌}
 use Rattle.lift_ir.specs.Scalars.{by_side}
-use Rattle.lift_ir.specs.Terms.{LoadSet, Skip, Take, Each, Space, LocalMemory, PrivateMemory, Term, Bound, Source, Both, Project, Reshape, LetArray, Copy, push}
+use Rattle.lift_ir.specs.Terms.{LoadSet, Skip, Take, TakeFour, Each, Space, LocalMemory, PrivateMemory, Term, Bound, Source, Both, Project, Reshape, LetArray, Copy, push}
 
 -- a memory; no memory holds what is in private variables
 pub data Region : Type 0 where
@@ -35,5 +35,6 @@ regions_of env _ = all_in NoMemory
 abbrev pub regions_left : LoadSet → Regions → Regions
 regions_left Skip x = x
 regions_left Take x = all_in NoMemory
+regions_left TakeFour x = all_in NoMemory
 regions_left (Each a b) x =
     by_side NoMemory (regions_left a (λ cs. x (false ∷ cs))) (regions_left b (λ cs. x (true ∷ cs)))

@@ -7,7 +7,7 @@ use Rattle.barrier_placement.specs.Fencing.{Fencing, stands}
 use Rattle.barrier_placement.specs.Separates.{bit}
 use Rattle.lift_ir.specs.Owner.{is_in_rows}
 use Rattle.lift_ir.specs.Types.{Ty, Scalar, PairOf, ArrayOf}
-use Rattle.lift_ir.specs.Terms.{LoadSet, Skip, Take, Each, Kind, Global, WorkGroup, Local, GlobalRows, WorkGroupRows, LocalRows, Sequential, Term, Both, Project, Reshape, LetArray, LetElement, Map, Fold, Store, Copy, push}
+use Rattle.lift_ir.specs.Terms.{LoadSet, Skip, Take, TakeFour, Each, Kind, Global, WorkGroup, Local, GlobalRows, WorkGroupRows, LocalRows, Sequential, Term, Both, Project, Reshape, LetArray, LetElement, Map, Fold, Store, Copy, push}
 use Rattle.group_form.specs.GridTheorem.{grid_phase_count}
 use Rattle.group_form.specs.Uses.{phase_count}
 use Rattle.term_traffic.specs.Regions.{Region, NoMemory, InGlobal, InLocal, InPrivate, Regions, region_in, all_in, regions_of, regions_left}
@@ -36,19 +36,21 @@ turn_stride ids Sequential = 1
 abbrev pub turns_of : Ids → Kind → ℕ → ℕ
 turns_of ids kind n = div_ceil (n - first_turn ids kind) (turn_stride ids kind)
 
--- how many of an element's scalars are loaded, each as it counts by where it lies
+-- how many of an element's scalars are loaded, each as it counts by where it lies; four of a vector
 abbrev pub loads_in : (load : Region → ℕ) → LoadSet → Regions → ℕ
 loads_in load Skip x = 0
 loads_in load Take x = load (x [])
+loads_in load TakeFour x = 4 * load (x [])
 loads_in load (Each a b) x =
     loads_in load a (λ cs. x (false ∷ cs)) + loads_in load b (λ cs. x (true ∷ cs))
 
--- how many of an element's scalars are stored, each as it counts by where it goes
+-- how many of an element's scalars are stored, each as it counts by where it goes; an array among
+-- elements is a vector
 abbrev pub stores_in : (store : Region → ℕ) → Ty → Regions → ℕ
 stores_in store Scalar w = store (w [])
 stores_in store (PairOf a b) w =
     stores_in store a (λ cs. w (false ∷ cs)) + stores_in store b (λ cs. w (true ∷ cs))
-stores_in store (ArrayOf n t) w = 0
+stores_in store (ArrayOf n t) w = 4 * store (w [])
 
 -- of loads and stores, each as it counts by its memory, at a launch where lengths are these numbers
 module _ {A : Type 0} (load store : Region → ℕ) (num : A → ℕ) (ids : Ids) where

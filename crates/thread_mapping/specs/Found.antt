@@ -1,11 +1,14 @@
 -- What judging a nest finds.
 use Rattle.std.specs.Prelude.{◌≡◌, ℕ, Bool, not, ◌&&◌, List, ◌∷◌, Option, Some, None}
+use Rattle.lowered_tree.specs.Aligned.{under_fold}
 use Rattle.lift_tree.specs.Tree.{Tree}
 use Rattle.lift_tree.specs.Annotations.{Annotation, type_in}
-use Rattle.lowered_tree.specs.declared.around.Around.{Around}
+use Rattle.lowered_tree.specs.Around.{Around}
 use Rattle.lowered_tree.specs.declared.rule.NestRule.{NestRule}
 use Rattle.lift_tree.specs.Types.{is_element}
 use Rattle.lowered_tree.specs.Nest.{nest_fault}
+use Rattle.thread_mapping.specs.declared.judging.Bounds.{Bounds}
+use Rattle.thread_mapping.specs.declared.judging.Bounds.TheVariants.{Nothing, Array, Fold}
 use Rattle.thread_mapping.specs.declared.judging.Broken.{Broken}
 use Rattle.thread_mapping.specs.declared.judging.NestNo.{NestNo}
 use Rattle.thread_mapping.specs.declared.judging.NestNo.TheVariants.{Nest, Memory}
@@ -13,6 +16,12 @@ use Rattle.thread_mapping.specs.declared.judging.NestNo.TheVariants.{Nest, Memor
 -- an array is written here
 abbrev pub writes_array : Around → Annotation → Bool
 writes_array s n = s.is_written && not (is_element (type_in n))
+
+-- the binders around a node's last child, where these are around the node
+abbrev pub under_bounds : Bounds → List Bool → List Bool
+under_bounds Nothing g = g
+under_bounds (Array b) g = b ∷ g
+under_bounds Fold g = under_fold g
 
 -- a broken rule and its place, if there is one
 abbrev pub found : Option Broken → Option (List ℕ × NestRule)

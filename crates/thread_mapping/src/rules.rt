@@ -1,28 +1,31 @@
 //! The rules of the nest, each at one node.
 
-ghost use Rattle.std.specs.Prelude.{◌≡◌};
+ghost use Rattle.std.specs.Prelude.{◌≡◌, [], reverse};
 ghost use Rattle.lift_tree.specs.Annotations.{annotation_of};
 ghost use Rattle.lift_tree.specs.Tree.{tree_of};
-ghost use Rattle.lowered_tree.specs.Nest.{broken_at, leaves_items_idle, lowest, size_rule};
+ghost use Rattle.lowered_tree.specs.Nest.{broken_at, is_in_order, leaves_items_idle, lowest, size_rule};
+ghost use Rattle.lowered_tree.specs.Around.{around_of};
 ghost use Rattle.lowered_tree.specs.Nodes.{own_site};
 ghost use Rattle.lowered_tree.specs.Pairs.{is_awaited};
-ghost use Rattle.lowered_tree.specs.declared.rule.NestRule.TheVariants.{N4, N5, N7};
+ghost use Rattle.lowered_tree.specs.declared.rule.NestRule.TheVariants.{N4, N5, N7, N15};
 ghost use Rattle.thread_mapping.specs.Found.{writes_array};
 
-use lift_tree::term::Term;
-use lowered_tree::around::{has_rows, is_task};
+use lift_tree::layout::Layout;
+use lift_tree::term::{Term, UnaryForm};
+use lowered_tree::aligned::is_aligned;
+use lowered_tree::around::{AddressSpace, Around, has_rows, is_task};
 use lowered_tree::forms::{
-    copies_local_map, hangs_on_sizes, is_awaited, is_global_map, is_group_map, is_let_of_array,
-    is_let_of_element, is_local_copy, is_local_map, is_lowered_fold, is_lowered_map,
-    is_parallel_map, is_placed, is_private_copy, is_read_alone, is_sequential_map, is_then,
-    is_undecided, is_unpaired,
+    copies_local_map, hangs_on_sizes, holds_vectors, is_awaited, is_copy, is_global_map,
+    is_group_map, is_let_of_array, is_let_of_element, is_local_copy, is_local_map, is_lowered_fold,
+    is_lowered_map, is_parallel_map, is_placed, is_private_copy, is_read_alone, is_sequential_map,
+    is_then, is_undecided, is_unpaired,
 };
 use lowered_tree::node::Node;
 use lowered_tree::rule::NestRule;
 
 // In a group's body and outside its items': work that no item would do alone.
 fn has_work_of_a_group(node: Node<'_>) -> bool
-    ensures { result ≡ broken_at N4 (own_site node.entry) }
+    ensures { result ≡ broken_at N4 (own_site [] node.entry) }
 {
     node.around.in_group
         && !node.around.in_local
@@ -35,7 +38,7 @@ fn has_work_of_a_group(node: Node<'_>) -> bool
 
 // A local copy that no group's items make.
 fn is_misplaced_copy(node: Node<'_>) -> bool
-    ensures { result ≡ broken_at N5 (own_site node.entry) }
+    ensures { result ≡ broken_at N5 (own_site [] node.entry) }
 {
     is_local_copy(node.term)
         && (!node.around.in_group
@@ -46,7 +49,7 @@ fn is_misplaced_copy(node: Node<'_>) -> bool
 
 // Work in an argument that isn't copied, or an array that is let in an element term.
 fn has_work_in_an_argument(node: Node<'_>) -> bool
-    ensures { result ≡ broken_at N7 (own_site node.entry) }
+    ensures { result ≡ broken_at N7 (own_site [] node.entry) }
 {
     let is_work = is_lowered_map(node.term)
         || is_lowered_fold(node.term)
@@ -57,7 +60,8 @@ fn has_work_in_an_argument(node: Node<'_>) -> bool
 
 // An array is written here.
 fn writes_array(node: Node<'_>) -> bool
-    ensures { result ≡ writes_array node.entry.around (annotation_of node.entry.types.now) }
+    ensures { result
+        ≡ writes_array (around_of node.entry.around []) (annotation_of node.entry.types.now) }
 {
     node.around.is_written && !node.ty().is_element()
 }
@@ -69,9 +73,29 @@ fn is_inner(node: Node<'_>) -> bool
     is_awaited(node.around.awaited, node.term)
 }
 
-/// Whether the rule is broken at this node, which none of the whole is.
-pub fn breaks(rule: NestRule, node: Node<'_>) -> bool
-    ensures { result ≡ broken_at rule (own_site node.entry) }
+// In writing position, with no layout but join and split up to the root or to a copy to local
+// memory.
+fn is_in_order(around: Around) -> bool
+    ensures { result ≡ is_in_order (around_of around []) }
+{
+    around.is_written && !around.is_reordered && around.space != AddressSpace::Private
+}
+
+// Vectors that don't lie in fours of one array.
+fn scatters_vectors(node: Node<'_>, aligned: &[bool]) -> bool
+    ensures { result ≡ broken_at N15 (own_site (reverse aligned.now) node.entry) }
+{
+    match node.term {
+        Term::Unary(UnaryForm::Layout(Layout::AsVector), a) => !is_aligned(aligned, a),
+        Term::Unary(UnaryForm::Layout(Layout::AsScalar), _) => !is_in_order(node.around),
+        _ => is_copy(node.term) && holds_vectors(node.ty()),
+    }
+}
+
+/// Whether the rule is broken at this node, which none of the whole is. Of the binders around it is
+/// told which are aligned, the nearest last.
+pub fn breaks(rule: NestRule, node: Node<'_>, aligned: &[bool]) -> bool
+    ensures { result ≡ broken_at rule (own_site (reverse aligned.now) node.entry) }
 {
     match rule {
         NestRule::N1 => is_undecided(node.term),
@@ -94,6 +118,7 @@ pub fn breaks(rule: NestRule, node: Node<'_>) -> bool
         NestRule::N12 => false,
         NestRule::N13 => is_then(node.term),
         NestRule::N14 => node.around.is_paired && is_unpaired(node.around.awaited, node.term),
+        NestRule::N15 => scatters_vectors(node, aligned),
     }
 }
 
@@ -122,16 +147,16 @@ pub fn size_rule(local: Option<(u32, u32)>, whole: &Term) -> Option<NestRule>
 }
 
 /// The first of these rules that is broken at this node.
-pub fn lowest(rules: &[NestRule], node: Node<'_>) -> Option<NestRule>
-    ensures { result ≡ lowest rules.now (own_site node.entry) }
+pub fn lowest(rules: &[NestRule], node: Node<'_>, aligned: &[bool]) -> Option<NestRule>
+    ensures { result ≡ lowest rules.now (own_site (reverse aligned.now) node.entry) }
 {
     match rules {
         [] => None,
         [first, rest @ ..] => {
-            if breaks(*first, node) {
+            if breaks(*first, node, aligned) {
                 Some(*first)
             } else {
-                lowest(rest, node)
+                lowest(rest, node, aligned)
             }
         }
     }

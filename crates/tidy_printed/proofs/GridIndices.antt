@@ -1,5 +1,5 @@
--- The indices of loads and stores, and the bounds of loops, in the code of a map over work-groups in
--- two dimensions.
+-- The indices of loads and stores, and the bounds of loops, in the code of a map over
+-- work-groups in two dimensions.
 use Rattle.std.proofs.Common.{ℕ, ◌+◌, Bool, true, false, List, [], refl}
 use Rattle.size_arith.specs.declared.names.Name.{Name}
 use Rattle.kernel_tree.specs.declared.tree.Dimension.TheVariants.{X, Y}
@@ -10,9 +10,9 @@ use Rattle.lift_ir.specs.Types.{Shape}
 use Rattle.lift_ir.specs.Terms.{WorkGroup, Local, WorkGroupRows, LocalRows, LocalMemory, Term, Bound, Source, Both, Project, Reshape, LetArray, Map, Copy, push}
 use Rattle.index_expr.specs.Expression.{Expression, Literal, short_nodes}
 use Rattle.printed_form.specs.Arguments.{argument_view, local_arrays}
-use Rattle.printed_form.specs.Counts.{load_count, variable_count, private_count, local_count}
+use Rattle.printed_form.specs.Counts.{Count, more, no_variables, load_count, variable_count, private_count, local_count}
 use Rattle.printed_form.specs.MapForms.{MapForm, Looped, Guarded, Alone, form_over_groups}
-use Rattle.printed_form.specs.Views.{View, loaded_view, view_at, result_indices, laid_view}
+use Rattle.printed_form.specs.Views.{View, loaded_view, view_at, rewritten_view, laid_view}
 use Rattle.printed_form.specs.Printer.{print_loaded, print_written}
 use Rattle.printed_form.proofs.Arguments.{IsArgument}
 use Rattle.group_phases.specs.Epochs.{fenced}
@@ -98,17 +98,17 @@ module _ (names : List Name) {A : Type 0} (spell : A → Expression) (text : A �
   turn_is_index Guarded s d id = id
   turn_is_index Alone s d id = id
 
-  along_row_fine : (d : ℕ) (counts : ℕ → IndexNodes) (env : ℕ → View) (k a n : ℕ) (t : Term A) (to : IndexNodes) (w : View) (rest : Code) (limits : List ℕ) (fs : List Formula) → StandsAlongRow t → Views counts env → IsIndexed names to w → Right limits rest fs → Right (written counts t to limits) (print_along_row text forms ins fence d env k a n t w rest) fs
+  along_row_fine : (d : ℕ) (counts : ℕ → IndexNodes) (env : ℕ → View) (k a : ℕ) (n : Count) (t : Term A) (to : IndexNodes) (w : View) (rest : Code) (limits : List ℕ) (fs : List Formula) → StandsAlongRow t → Views counts env → IsIndexed names to w → Right limits rest fs → Right (written counts t to limits) (print_along_row text forms ins fence d env k a n t w rest) fs
   along_row_fine d counts env k a n (Reshape y x) to w rest limits fs stands all goes f =
-      along_row_fine d counts env k a n x (written_through spell y to) (λ cs is. w cs (result_indices text y is)) rest limits fs stands.1 all (written_indexed names spell text lengths y to w goes) f
+      along_row_fine d counts env k a n x (written_through spell y to) (rewritten_view text y w) rest limits fs stands.1 all (written_indexed names spell text lengths y to w goes) f
   along_row_fine d counts env k a n (Map Local m ls x b) to w rest limits fs stands all goes f =
       let form = forms.columns.local m in
       let privates = a + private_count x in
-      let variables = n + variable_count x + load_count ls in
+      let variables = more (more n (variable_count x)) (load_count ls) in
       let at = element_nodes spell forms src counts x in
       let inside = bound_limit form (short_nodes (spell m)) (load_limits ls at (written (push (after_loads ls at) counts) b (at_one_node to) limits)) in
       nothing_printed counts x inside (indices_then (print_along_row text forms ins fence d env k a n (Map Local m ls x b) w rest) fs) stands.0
-      (map_fine names form (turn_from form (FromLocalId X) d) (print_turns_from form (FromLocalId X) (ByLocalSize X) (text m)) (short_nodes (spell m)) (n + variable_count x) ls counts env (counted counts x) to (viewed env k x) w
+      (map_fine names form (turn_from form (FromLocalId X) d) (print_turns_from form (FromLocalId X) (ByLocalSize X) (text m)) (short_nodes (spell m)) (more n (variable_count x)) ls counts env (counted counts x) to (viewed env k x) w
       (λ counts to. written counts b to limits) (λ env w last. print_written text ins (depth_in form d) env privates variables b w last) rest limits fs
       (turn_is_index form (FromLocalId X) d (index_local names X)) (turns_fine names form (FromLocalId X) (ByLocalSize X) (short_nodes (spell m)) (text m) (lengths m))
       (λ counts env to w last gs all goes f. terms.written_fine names spell text lengths forms src ins inputs (depth_in form d) counts env privates variables b to w last limits gs stands.1 all goes f)
@@ -134,7 +134,7 @@ module _ (names : List Name) {A : Type 0} (spell : A → Expression) (text : A �
 
     written_fine : (d : ℕ) (counts : ℕ → IndexNodes) (env : ℕ → View) (u : Used) (t : Term A) (to : IndexNodes) (w : View) (rest : Code) (limits : List ℕ) (fs : List Formula) → StandsInGrid true t → Views counts env → IsIndexed names to w → Right limits rest fs → Right (written counts t to limits) (print_grid_written text forms ins fence d env u t w rest) fs
     written_fine d counts env u (Reshape y x) to w rest limits fs stands all goes f =
-        written_fine d counts env u x (written_through spell y to) (λ cs is. w cs (result_indices text y is)) rest limits fs stands.1 all (written_indexed names spell text lengths y to w goes) f
+        written_fine d counts env u x (written_through spell y to) (rewritten_view text y w) rest limits fs stands.1 all (written_indexed names spell text lengths y to w goes) f
     written_fine d counts env u (LetArray v b) to w rest limits fs stands all goes f =
         let inner = push (viewed env u.locals v) env in
         let within = push (counted counts v) counts in
@@ -143,7 +143,7 @@ module _ (names : List Name) {A : Type 0} (spell : A → Expression) (text : A �
     written_fine d counts env u (Map LocalRows m ls x b) to w rest limits fs stands all goes f =
         let form = forms.rows.local m in
         let after = used_after u x in
-        let variables = after.variables + load_count ls in
+        let variables = more after.variables (load_count ls) in
         let place = fence (u.phases + phases_in x) in
         let nest = print_local_nest text forms ins fence d env after m ls (viewed env u.locals x) b w rest in
         let at = element_nodes spell forms src counts x in
@@ -162,15 +162,15 @@ module _ (names : List Name) {A : Type 0} (spell : A → Expression) (text : A �
   statement_fine false s c bound turn limits fs f = f
   statement_fine true s c bound turn limits fs f = f
 
-  along_groups_fine : (d : ℕ) (counts : ℕ → IndexNodes) (env : ℕ → View) (n : ℕ) (t : Term A) (to : IndexNodes) (w : View) (fs : List Formula) → StandsAlongGroups t → Views counts env → IsIndexed names to w → EachWithin (Spelled names) [] fs → Right (written counts t to []) (print_along_groups text forms ins fence d env n t w) fs
+  along_groups_fine : (d : ℕ) (counts : ℕ → IndexNodes) (env : ℕ → View) (n : Count) (t : Term A) (to : IndexNodes) (w : View) (fs : List Formula) → StandsAlongGroups t → Views counts env → IsIndexed names to w → EachWithin (Spelled names) [] fs → Right (written counts t to []) (print_along_groups text forms ins fence d env n t w) fs
   along_groups_fine d counts env n (Reshape y t) to w fs stands all goes f =
-      along_groups_fine d counts env n t (written_through spell y to) (λ cs is. w cs (result_indices text y is)) fs stands.1 all (written_indexed names spell text lengths y to w goes) f
+      along_groups_fine d counts env n t (written_through spell y to) (rewritten_view text y w) fs stands.1 all (written_indexed names spell text lengths y to w goes) f
   along_groups_fine d counts env n (Map WorkGroup m ls xs b) to w fs stands all goes f =
       let once = forms.columns.once m in
       let form = form_over_groups once in
       let turn = turn_from form (FromGroupId X) d in
       let element = view_at turn (input_view names spell text lengths forms src ins inputs fence env xs) in
-      let u : Used = record { locals = 0; privates = 0; variables = n + load_count ls; phases = 0 } in
+      let u : Used = record { locals = 0; privates = 0; variables = more n (load_count ls); phases = 0 } in
       let closing = fence (phases_in b) in
       let code : (ℕ → View) → View → Code → Code = λ env w last. print_grid_written text forms ins fence (depth_in form d) env u b w (fenced closing last) in
       let body : Code → Code = λ last. print_loaded ls element n (code (push (loaded_view ls element n) env) (view_at turn w) last) in
@@ -186,7 +186,7 @@ module _ (names : List Name) {A : Type 0} (spell : A → Expression) (text : A �
   along_groups_fine d counts env n _ to w fs stands all goes f = absurd stands
 
   pub grid_fine : (counts : ℕ → IndexNodes) (env : ℕ → View) (t : Term A) (to : IndexNodes) (w : View) → StandsOverGrid t → Views counts env → IsIndexed names to w → Right (written counts t to []) (print_grid text forms ins fence env t w) []
-  grid_fine counts env (Reshape y t) to w stands all goes = grid_fine counts env t (written_through spell y to) (λ cs is. w cs (result_indices text y is)) stands.1 all (written_indexed names spell text lengths y to w goes)
+  grid_fine counts env (Reshape y t) to w stands all goes = grid_fine counts env t (written_through spell y to) (rewritten_view text y w) stands.1 all (written_indexed names spell text lengths y to w goes)
   grid_fine counts env (LetArray v b) to w stands all goes =
       let within = push (counted counts v) counts in
       let seen = input_view names spell text lengths forms src ins inputs fence env v in
@@ -199,12 +199,12 @@ module _ (names : List Name) {A : Type 0} (spell : A → Expression) (text : A �
       let seen = input_view names spell text lengths forms src ins inputs fence env xs in
       let element = view_at turn seen in
       let code : (ℕ → View) → View → Code → Code = λ env w last. print_along_groups text forms ins fence (depth_in form 0) env (load_count ls) b w in
-      let body : Code → Code = λ last. print_loaded ls element 0 (code (push (loaded_view ls element 0) env) (view_at turn w) last) in
+      let body : Code → Code = λ last. print_loaded ls element no_variables (code (push (loaded_view ls element no_variables) env) (view_at turn w) last) in
       let at = element_nodes spell forms src counts xs in
       let limits = bound_limit form (short_nodes (spell m)) (load_limits ls at (written (push (after_loads ls at) counts) b (at_one_node to) [])) in
       nothing_printed counts xs limits (indices_then (statement_of form (FromGroupId Y) (ByGroupCount Y) (text m) (body End)) []) stands.0
       (statement_fine once (FromGroupId Y) (ByGroupCount Y) (text m) body limits []
-      (map_fine names form turn (print_turns_from form (FromGroupId Y) (ByGroupCount Y) (text m)) (short_nodes (spell m)) 0 ls counts env (counted counts xs) to seen w
+      (map_fine names form turn (print_turns_from form (FromGroupId Y) (ByGroupCount Y) (text m)) (short_nodes (spell m)) no_variables ls counts env (counted counts xs) to seen w
       (λ counts to. written counts b to []) code End [] []
       (turn_is_index form (FromGroupId Y) 0 (index_group names Y)) (turns_fine names form (FromGroupId Y) (ByGroupCount Y) (short_nodes (spell m)) (text m) (lengths m))
       (λ counts env to w last gs all goes f. along_groups_fine (depth_in form 0) counts env (load_count ls) b to w gs stands.1 all goes (none_behind (Spelled names) last gs f))

@@ -9,9 +9,9 @@ use Rattle.lift_ir.specs.Types.{Shape}
 use Rattle.lift_ir.specs.Terms.{Kind, WorkGroup, Local, LocalMemory, Term, Bound, Source, Both, Project, Reshape, LetArray, Map, Copy, push}
 use Rattle.index_expr.specs.Expression.{Expression, Literal, short_nodes}
 use Rattle.printed_form.specs.Arguments.{argument_view, private_arrays, local_arrays}
-use Rattle.printed_form.specs.Counts.{load_count, local_count}
+use Rattle.printed_form.specs.Counts.{more, no_variables, load_count, local_count}
 use Rattle.printed_form.specs.MapForms.{MapForm, Looped, Guarded, Alone, form_over_groups, statement_over_groups}
-use Rattle.printed_form.specs.Views.{View, loaded_view, view_at, result_indices, laid_view}
+use Rattle.printed_form.specs.Views.{View, loaded_view, view_at, rewritten_view, laid_view}
 use Rattle.printed_form.specs.Printer.{print_loaded, print_written}
 use Rattle.printed_form.proofs.Arguments.{stands_argument}
 use Rattle.group_phases.specs.Epochs.{fenced}
@@ -80,7 +80,7 @@ module _ (names : List Name) {A : Type 0} (spell : A → Expression) (text : A �
 
     written_fine : (d : ℕ) (counts : ℕ → IndexNodes) (env : ℕ → View) (u : Used) (t : Term A) (to : IndexNodes) (w : View) (rest : Code) (limits : List ℕ) (fs : List Formula) → StandsInGroup true t → Views counts env → IsIndexed names to w → Right limits rest fs → Right (written counts t to limits) (print_group_written text forms.columns ins fence d env u t w rest) fs
     written_fine d counts env u (Reshape y x) to w rest limits fs stands all goes f =
-        written_fine d counts env u x (written_through spell y to) (λ cs is. w cs (result_indices text y is)) rest limits fs stands.1 all (written_indexed names spell text lengths y to w goes) f
+        written_fine d counts env u x (written_through spell y to) (rewritten_view text y w) rest limits fs stands.1 all (written_indexed names spell text lengths y to w goes) f
     written_fine d counts env u (LetArray v b) to w rest limits fs stands all goes f =
         let inner = push (viewed env u.locals v) env in
         let within = push (counted counts v) counts in
@@ -89,7 +89,7 @@ module _ (names : List Name) {A : Type 0} (spell : A → Expression) (text : A �
     written_fine d counts env u (Map Local m ls x b) to w rest limits fs stands all goes f =
         let form = forms.columns.local m in
         let after = used_after u x in
-        let variables = after.variables + load_count ls in
+        let variables = more after.variables (load_count ls) in
         let place = fence (u.phases + phases_in x) in
         let map = print_local_map text forms.columns ins fence d env after m ls (viewed env u.locals x) b w rest in
         let at = element_nodes spell forms src counts x in
@@ -127,7 +127,7 @@ module _ (names : List Name) {A : Type 0} (spell : A → Expression) (text : A �
   input_indexed counts env t h all = argument_indexed names private_arrays spell text lengths forms src ins inputs counts env 0 t (stands_argument t (inputs_stand t h)) all
 
   pub groups_fine : (counts : ℕ → IndexNodes) (env : ℕ → View) (t : Term A) (to : IndexNodes) (w : View) → StandsOverGroups t → Views counts env → IsIndexed names to w → Right (written counts t to []) (print_groups text forms.columns ins fence env t w) []
-  groups_fine counts env (Reshape y t) to w stands all goes = groups_fine counts env t (written_through spell y to) (λ cs is. w cs (result_indices text y is)) stands.1 all (written_indexed names spell text lengths y to w goes)
+  groups_fine counts env (Reshape y t) to w stands all goes = groups_fine counts env t (written_through spell y to) (rewritten_view text y w) stands.1 all (written_indexed names spell text lengths y to w goes)
   groups_fine counts env (LetArray v b) to w stands all goes =
       let within = push (counted counts v) counts in
       let inner = push (input_view env v) env in
@@ -140,12 +140,12 @@ module _ (names : List Name) {A : Type 0} (spell : A → Expression) (text : A �
       let u : Used = record { locals = 0; privates = 0; variables = load_count ls; phases = 0 } in
       let closing = fence (phases_in b) in
       let code : (ℕ → View) → View → Code → Code = λ env w last. print_group_written text forms.columns ins fence (depth_in form 0) env u b w (fenced closing last) in
-      let body : Code → Code = λ last. print_loaded ls element 0 (code (push (loaded_view ls element 0) env) (view_at turn w) last) in
+      let body : Code → Code = λ last. print_loaded ls element no_variables (code (push (loaded_view ls element no_variables) env) (view_at turn w) last) in
       let at = element_nodes spell forms src counts xs in
       let limits = bound_limit form (short_nodes (spell m)) (load_limits ls at (written (push (after_loads ls at) counts) b (at_one_node to) [])) in
       nothing_printed counts xs limits (indices_then (statement_over_groups (forms.columns.once m) (text m) (body End)) []) stands.0
       (statement_fine (forms.columns.once m) (text m) body limits
-      (map_fine names form turn (print_turns form WorkGroup (text m)) (short_nodes (spell m)) 0 ls counts env (counted counts xs) to (input_view env xs) w
+      (map_fine names form turn (print_turns form WorkGroup (text m)) (short_nodes (spell m)) no_variables ls counts env (counted counts xs) to (input_view env xs) w
       (λ counts to. written counts b to []) code End [] []
       (turn_is_index form WorkGroup 0 (index_group names X)) (kind_turns_fine names form WorkGroup (short_nodes (spell m)) (text m) (lengths m))
       (λ counts env to w last gs all goes f. written_fine (depth_in form 0) counts env u b to w (fenced closing last) [] gs stands.1 all goes (fence_fine closing last [] gs f))

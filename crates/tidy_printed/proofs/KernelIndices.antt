@@ -18,6 +18,7 @@ use Rattle.lift_ir.specs.Lowering.{Lowered}
 use Rattle.lift_ir.specs.Types.{Shape}
 use Rattle.length_spelling.specs.Formulas.{length_formula, spelled_length}
 use Rattle.printed_form.specs.Views.{View, placed_view}
+use Rattle.printed_form.specs.Counts.{no_variables}
 use Rattle.printed_form.specs.Printer.{input_views, no_view}
 use Rattle.printed_form.specs.Programs.{first_buffer, input_shape, lowered_root}
 use Rattle.group_form.specs.GridChosen.{grid_forms_of}
@@ -140,8 +141,8 @@ module _ (d : Declared) (size : Option (ℕ × ℕ)) (fence : ℕ → Fencing) (
 
   -- in what a printer makes
   printed_fits : (p : Printer) → StandsFor p root → EachWithin (Spelled d.names) (limits_of d size t a) (indices_then (kernel_by p text fence d size t a).code [])
-  printed_fits OfItems (inl h) = terms.written_fine d.names spell text lengths forms src ins inputs_indexed 0 (λ v. no_index) no_view 0 0 root output_nodes output_view End [] [] h (λ v. blank_indexed d.names) output_indexed tt
-  printed_fits OfItems (inr h) = terms.launch_fine d.names spell text lengths forms src ins inputs_indexed 0 (λ v. no_index) no_view 0 0 root output_nodes output_view End [] [] h (λ v. blank_indexed d.names) output_indexed tt
+  printed_fits OfItems (inl h) = terms.written_fine d.names spell text lengths forms src ins inputs_indexed 0 (λ v. no_index) no_view 0 no_variables root output_nodes output_view End [] [] h (λ v. blank_indexed d.names) output_indexed tt
+  printed_fits OfItems (inr h) = terms.launch_fine d.names spell text lengths forms src ins inputs_indexed 0 (λ v. no_index) no_view 0 no_variables root output_nodes output_view End [] [] h (λ v. blank_indexed d.names) output_indexed tt
   printed_fits OfGroups h = groups.groups_fine d.names spell text lengths forms src ins inputs_indexed fence (λ v. no_index) no_view root output_nodes output_view h (λ v. blank_indexed d.names) output_indexed
   printed_fits OfGrids h = grids.grid_fine d.names spell text lengths forms src ins inputs_indexed fence (λ v. no_index) no_view root output_nodes output_view h (λ v. blank_indexed d.names) output_indexed
 

@@ -15,3 +15,4 @@ pub mod TermIndices
 pub mod GroupIndices
 pub mod GridIndices
 pub mod KernelIndices
+mod Turns

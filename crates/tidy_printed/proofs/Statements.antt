@@ -1,15 +1,15 @@
 -- Tidied, loads, stores and loops are what they were printed for: indices and bounds keep their
 -- values.
-use Rattle.std.proofs.Common.{◌≡◌, ℕ, ◌+◌, ◌<◌, Bool, true, false, List, [], ◌∷◌, ◌++◌, Option, Some, refl, ap, subst, arith}
+use Rattle.std.proofs.Common.{◌≡◌, ℕ, ◌<◌, Bool, true, false, List, [], ◌∷◌, ◌++◌, Option, Some, refl, ap, subst, arith}
 use Rattle.kernel_tree.specs.Formula.{Formula, Ids, bound_value}
 use Rattle.kernel_tree.specs.Code.{Array, Start, Stride, start_value, Code, End}
 use Rattle.kernel_tree.specs.Launch.{Launch, item_count, ids_of}
-use Rattle.lift_ir.specs.Types.{Ty, Scalar, PairOf, ArrayOf, width}
-use Rattle.lift_ir.specs.Terms.{LoadSet, Skip, Take, Each, Kind, Term, push}
-use Rattle.printed_form.specs.Counts.{let_variables, load_count}
-use Rattle.printed_form.specs.Marks.{Mark, Nowhere, Register, Spot, Marks, held_marks, loaded_marks}
-use Rattle.printed_form.specs.Expressions.{exprs}
-use Rattle.printed_form.specs.Form.{IsTurn, IsSpot, IsStored, IsLoaded, IsLoop, IsFoldTurn}
+use Rattle.lift_ir.specs.Types.{Ty, Scalar, PairOf, ArrayOf}
+use Rattle.lift_ir.specs.Terms.{LoadSet, Skip, Take, TakeFour, Each, Kind, Term, push}
+use Rattle.printed_form.specs.Counts.{Count, more, held_count, let_variables, load_count}
+use Rattle.printed_form.specs.Marks.{Mark, Nowhere, Register, Lane, Spot, Marks, held_marks, loaded_marks}
+use Rattle.printed_form.specs.Expressions.{Expr, exprs}
+use Rattle.printed_form.specs.Form.{IsTurn, IsSpot, IsFourSpot, IsStored, IsLoaded, IsLoop, IsFoldTurn}
 use Rattle.printed_form.specs.MapForms.{MapForm, Looped, Guarded, Alone, TurnCode, form_over_groups, variables_in}
 use Rattle.group_phases.specs.Strides.{AreTurnsFrom, statement_of}
 use Rattle.tidy_indices.specs.Around.{Around, InLoop, InIf, StandsIn}
@@ -58,17 +58,22 @@ module _ (l : Launch) (item : ℕ) (ins : ℕ → Marks) (tidy : Change) (keeps 
   spot (Spot b n) a i h = (h.0, λ vs. keeps.index item around ts vs i n in_launch stands (h.1 vs))
   spot Nowhere a i h = absurd h
   spot (Register v) a i h = absurd h
+  spot (Lane v j) a i h = absurd h
 
-  pub stored : (ty : Ty) (f : List Bool → Option Formula) (w : Marks) (code rest : Code) → IsStored l item ins ts ty f w code rest → IsStored l item ins ts ty f w (tidied code) (tidied rest)
+  four_spot : (x : List ℕ → Mark) (a : Array) (i : Formula) → IsFourSpot l item ins ts x a i → IsFourSpot l item ins ts x a (tidy around i)
+  four_spot x a i h = (h.0, h.1, λ vs. keeps.index item around ts vs i h.0 in_launch stands (h.2 vs))
+
+  pub stored : (ty : Ty) (f : List Bool → Option Expr) (w : Marks) (code rest : Code) → IsStored l item ins ts ty f w code rest → IsStored l item ins ts ty f w (tidied code) (tidied rest)
   stored Scalar f w code rest h = (h.0, tidy around h.1, h.2, h.3, spot (w [] []) h.0 h.1 h.4, ap tidied h.5)
   stored (PairOf a b) f w code rest h =
       (tidied h.0, stored a (λ cs. f (false ∷ cs)) (λ cs. w (false ∷ cs)) code h.0 h.1, stored b (λ cs. f (true ∷ cs)) (λ cs. w (true ∷ cs)) h.0 rest h.2)
-  stored (ArrayOf m t) f w code rest h = absurd h
+  stored (ArrayOf m t) f w code rest h = (h.0, h.1, tidy around h.2, h.3, h.4, four_spot (w []) h.1 h.2 h.5, ap tidied h.6)
 
-  pub loaded : (loads : LoadSet) (x : Marks) (n : ℕ) (code rest : Code) → IsLoaded l item ins ts loads x n code rest → IsLoaded l item ins ts loads x n (tidied code) (tidied rest)
+  pub loaded : (loads : LoadSet) (x : Marks) (n : Count) (code rest : Code) → IsLoaded l item ins ts loads x n code rest → IsLoaded l item ins ts loads x n (tidied code) (tidied rest)
   loaded Skip x n code rest h = ap tidied h
   loaded Take x n code rest h = (h.0, tidy around h.1, spot (x [] []) h.0 h.1 h.2, ap tidied h.3)
-  loaded (Each a b) x n code rest h = (tidied h.0, loaded a (λ cs. x (false ∷ cs)) n code h.0 h.1, loaded b (λ cs. x (true ∷ cs)) (n + load_count a) h.0 rest h.2)
+  loaded TakeFour x n code rest h = (h.0, tidy around h.1, four_spot (x []) h.0 h.1 h.2, ap tidied h.3)
+  loaded (Each a b) x n code rest h = (tidied h.0, loaded a (λ cs. x (false ∷ cs)) n code h.0 h.1, loaded b (λ cs. x (true ∷ cs)) (more n (load_count a)) h.0 rest h.2)
 
   -- a loop whose tidied body is what it was printed for at each turn
   pub loop : (kind : Kind) (n : ℕ) (B : ℕ → Code → Type 0) (code rest : Code)
@@ -102,15 +107,15 @@ module _ (l : Launch) (item : ℕ) (ins : ℕ → Marks) (tidy : Change) (keeps 
   )
   turns Alone s c n B code rest turn h = λ i lt own. turn around ts stands i code rest (h i lt own)
 
-  pub fold_turn : {A : Type 0} → (env : ℕ → Marks) (loads : LoadSet) (ty : Ty) (x : Marks) (acc : ℕ) (b : Term A) (body : Code) → IsFoldTurn l item ins ts env loads ty x acc b body → IsFoldTurn l item ins ts env loads ty x acc b (tidied body)
+  pub fold_turn : {A : Type 0} → (env : ℕ → Marks) (loads : LoadSet) (ty : Ty) (x : Marks) (acc : Count) (b : Term A) (body : Code) → IsFoldTurn l item ins ts env loads ty x acc b body → IsFoldTurn l item ins ts env loads ty x acc b (tidied body)
   fold_turn env loads ty x acc b body h =
-      let inside = push (loaded_marks loads x (acc + width ty)) (push (held_marks ty acc) env) in
-      let n = acc + width ty + load_count loads in (
+      let inside = push (loaded_marks loads x (more acc (held_count ty))) (push (held_marks ty acc) env) in
+      let n = more (more acc (held_count ty)) (load_count loads) in (
         tidied h.0,
         tidied h.1,
-        loaded loads x (acc + width ty) body h.0 h.2,
+        loaded loads x (more acc (held_count ty)) body h.0 h.2,
         element tidy around inside n b h.0 h.1 h.3,
-        reassigned tidy around ty (exprs inside n b) acc (n + let_variables b) h.1 End h.4,
+        reassigned tidy around ty (exprs inside n b) acc (more n (let_variables b)) h.1 End h.4,
       )
 
 pub loads_are : TidiedLoadsArePrinted

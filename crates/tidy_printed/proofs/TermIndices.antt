@@ -4,14 +4,15 @@ use Rattle.size_arith.specs.declared.names.Name.{Name}
 use Rattle.kernel_tree.specs.Formula.{Formula, Number, LoopVariable}
 use Rattle.kernel_tree.specs.Code.{Private, Code, End, Loops}
 use Rattle.lift_ir.specs.Forms.{Stands, StandsAlongRow, StandsOverLaunch}
-use Rattle.lift_ir.specs.Types.{Shape, width}
+use Rattle.lift_ir.specs.Types.{Shape}
 use Rattle.lift_ir.specs.Terms.{LoadSet, Kind, Global, GlobalRows, Sequential, PrivateMemory, Term, Bound, Source, Both, Project, Reshape, LetArray, LetElement, Map, Fold, Store, Copy, push}
 use Rattle.index_expr.specs.Expression.{Expression, Literal, short_nodes}
 use Rattle.printed_form.specs.Arguments.{argument_view, private_arrays}
-use Rattle.printed_form.specs.Counts.{let_variables, load_count, variable_count, private_count}
+use Rattle.printed_form.specs.Counts.{Count, more, held_count, let_variables, load_count, variable_count, private_count}
+use Rattle.printed_form.specs.Expressions.{Expr}
 use Rattle.printed_form.specs.Form.{start_of, stride_of}
 use Rattle.printed_form.specs.MapForms.{Looped}
-use Rattle.printed_form.specs.Views.{View, held_sign, held_view, loaded_view, view_at, result_indices, laid_view}
+use Rattle.printed_form.specs.Views.{View, held_sign, held_view, loaded_view, view_at, rewritten_view, laid_view}
 use Rattle.printed_form.specs.Printer.{sign_exprs, print_assigned, print_element, print_stored, print_loaded, print_fold_turn, print_argument, print_written}
 use Rattle.printed_form.proofs.Arguments.{stands_argument}
 use Rattle.group_form.specs.GridPrinter.{print_turns_from}
@@ -46,64 +47,64 @@ module _ (names : List Name) {A : Type 0} (spell : A → Expression) (text : A �
   viewed_indexed counts env a t stands all = argument_indexed names private_arrays spell text lengths forms src ins inputs counts env a t (stands_argument t stands) all
 
   -- a map by turns of one work-item, whose argument and body are so wherever they stand
-  loop_fine : (kind : Kind) (d : ℕ) (counts : ℕ → IndexNodes) (env : ℕ → View) (a n : ℕ) (m : A) (ls : LoadSet) (x b : Term A) (to : IndexNodes) (w : View) (rest : Code) (limits : List ℕ) (fs : List Formula)
+  loop_fine : (kind : Kind) (d : ℕ) (counts : ℕ → IndexNodes) (env : ℕ → View) (a : ℕ) (n : Count) (m : A) (ls : LoadSet) (x b : Term A) (to : IndexNodes) (w : View) (rest : Code) (limits : List ℕ) (fs : List Formula)
       → ((code : Code) (inside : List ℕ) → Right inside code fs → Right (argued counts x inside) (print_argument text ins d env a n x code) fs)
-      → ((counts : ℕ → IndexNodes) (env : ℕ → View) (a n : ℕ) (to : IndexNodes) (w : View) (last : Code) (gs : List Formula) → Views counts env → IsIndexed names to w → Right limits last gs → Right (written counts b to limits) (print_written text ins (suc d) env a n b w last) gs)
+      → ((counts : ℕ → IndexNodes) (env : ℕ → View) (a : ℕ) (n : Count) (to : IndexNodes) (w : View) (last : Code) (gs : List Formula) → Views counts env → IsIndexed names to w → Right limits last gs → Right (written counts b to limits) (print_written text ins (suc d) env a n b w last) gs)
       → Stands false x → Views counts env → IsIndexed names to w → Right limits rest fs
       → Right (argued counts x (short_nodes (spell m) ∷ load_limits ls (element_nodes spell forms src counts x) (written (push (after_loads ls (element_nodes spell forms src counts x)) counts) b (at_one_node to) limits))) (print_written text ins d env a n (Map kind m ls x b) w rest) fs
   loop_fine kind d counts env a n m ls x b to w rest limits fs argument body stands all goes f =
-      let start = n + variable_count x in
+      let start = more n (variable_count x) in
       let inside : (ℕ → IndexNodes) → IndexNodes → List ℕ = λ counts to. written counts b to limits in
-      let code : (ℕ → View) → View → Code → Code = λ env w last. print_written text ins (suc d) env (a + private_count x) (start + load_count ls) b w last in
+      let code : (ℕ → View) → View → Code → Code = λ env w last. print_written text ins (suc d) env (a + private_count x) (more start (load_count ls)) b w last in
       let at = element_nodes spell forms src counts x in
       let element = view_at (LoopVariable d) (viewed env a x) in
       argument (Loops (start_of kind) (text m) (stride_of kind) (print_loaded ls element start (code (push (loaded_view ls element start) env) (view_at (LoopVariable d) w) End)) rest) (short_nodes (spell m) ∷ load_limits ls at (inside (push (after_loads ls at) counts) (at_one_node to)))
       (map_fine names Looped (LoopVariable d) (print_turns_from Looped (start_of kind) (stride_of kind) (text m)) (short_nodes (spell m)) start ls counts env (counted counts x) to (viewed env a x) w inside code rest limits fs
-      (index_loop names d) (turns_fine names Looped (start_of kind) (stride_of kind) (short_nodes (spell m)) (text m) (lengths m)) (λ counts env. body counts env (a + private_count x) (start + load_count ls)) all (viewed_indexed counts env a x stands all) goes f)
+      (index_loop names d) (turns_fine names Looped (start_of kind) (stride_of kind) (short_nodes (spell m)) (text m) (lengths m)) (λ counts env. body counts env (a + private_count x) (more start (load_count ls))) all (viewed_indexed counts env a x stands all) goes f)
 
   mutual
-    pub argument_fine : (d : ℕ) (counts : ℕ → IndexNodes) (env : ℕ → View) (a n : ℕ) (t : Term A) (rest : Code) (limits : List ℕ) (fs : List Formula) → Stands false t → Views counts env → Right limits rest fs → Right (argued counts t limits) (print_argument text ins d env a n t rest) fs
+    pub argument_fine : (d : ℕ) (counts : ℕ → IndexNodes) (env : ℕ → View) (a : ℕ) (n : Count) (t : Term A) (rest : Code) (limits : List ℕ) (fs : List Formula) → Stands false t → Views counts env → Right limits rest fs → Right (argued counts t limits) (print_argument text ins d env a n t rest) fs
     argument_fine d counts env a n (Bound v) rest limits fs stands all f = f
     argument_fine d counts env a n (Source v) rest limits fs stands all f = f
     argument_fine d counts env a n (Both zips x y) rest limits fs stands all f =
-        argument_fine d counts env a n x (print_argument text ins d env (a + private_count x) (n + variable_count x) y rest) (argued counts y limits) fs stands.0 all
-        (argument_fine d counts env (a + private_count x) (n + variable_count x) y rest limits fs stands.1 all f)
+        argument_fine d counts env a n x (print_argument text ins d env (a + private_count x) (more n (variable_count x)) y rest) (argued counts y limits) fs stands.0 all
+        (argument_fine d counts env (a + private_count x) (more n (variable_count x)) y rest limits fs stands.1 all f)
     argument_fine d counts env a n (Project s x) rest limits fs stands all f = argument_fine d counts env a n x rest limits fs stands all f
     argument_fine d counts env a n (Reshape y x) rest limits fs stands all f = argument_fine d counts env a n x rest limits fs stands all f
     argument_fine d counts env a n (LetArray v b) rest limits fs stands all f =
         let inner = push (viewed env a v) env in
         let within = push (counted counts v) counts in
-        argument_fine d counts env a n v (print_argument text ins d inner (a + private_count v) (n + variable_count v) b rest) (argued within b limits) fs stands.0 all
-        (argument_fine d within inner (a + private_count v) (n + variable_count v) b rest limits fs stands.1 (pushed names counts env (counted counts v) (viewed env a v) (viewed_indexed counts env a v stands.0 all) all) f)
+        argument_fine d counts env a n v (print_argument text ins d inner (a + private_count v) (more n (variable_count v)) b rest) (argued within b limits) fs stands.0 all
+        (argument_fine d within inner (a + private_count v) (more n (variable_count v)) b rest limits fs stands.1 (pushed names counts env (counted counts v) (viewed env a v) (viewed_indexed counts env a v stands.0 all) all) f)
     argument_fine d counts env a n (Copy PrivateMemory ty x) rest limits fs stands all f =
         written_fine d counts env a n x (array_nodes Literal ty) (laid_view Private (a + private_count x) ty) rest limits fs stands all (placed_indexed names Literal Number (spelled_number names) Private (a + private_count x) ty) f
     argument_fine d counts env a n _ rest limits fs stands all f = absurd stands
 
-    pub written_fine : (d : ℕ) (counts : ℕ → IndexNodes) (env : ℕ → View) (a n : ℕ) (t : Term A) (to : IndexNodes) (w : View) (rest : Code) (limits : List ℕ) (fs : List Formula) → Stands true t → Views counts env → IsIndexed names to w → Right limits rest fs → Right (written counts t to limits) (print_written text ins d env a n t w rest) fs
+    pub written_fine : (d : ℕ) (counts : ℕ → IndexNodes) (env : ℕ → View) (a : ℕ) (n : Count) (t : Term A) (to : IndexNodes) (w : View) (rest : Code) (limits : List ℕ) (fs : List Formula) → Stands true t → Views counts env → IsIndexed names to w → Right limits rest fs → Right (written counts t to limits) (print_written text ins d env a n t w rest) fs
     written_fine d counts env a n (Store ty x) to w rest limits fs stands all goes f =
         element_fine names (store_limits ty to limits) fs n env x (print_stored ty (sign_exprs env n x) w rest) (stored_fine names ty (sign_exprs env n x) to w rest limits fs goes f)
     written_fine d counts env a n (Reshape y x) to w rest limits fs stands all goes f =
-        written_fine d counts env a n x (written_through spell y to) (λ cs is. w cs (result_indices text y is)) rest limits fs stands.1 all (written_indexed names spell text lengths y to w goes) f
+        written_fine d counts env a n x (written_through spell y to) (rewritten_view text y w) rest limits fs stands.1 all (written_indexed names spell text lengths y to w goes) f
     written_fine d counts env a n (LetArray v b) to w rest limits fs stands all goes f =
         let inner = push (viewed env a v) env in
         let within = push (counted counts v) counts in
-        argument_fine d counts env a n v (print_written text ins d inner (a + private_count v) (n + variable_count v) b w rest) (written within b to limits) fs stands.0 all
-        (written_fine d within inner (a + private_count v) (n + variable_count v) b to w rest limits fs stands.1 (pushed names counts env (counted counts v) (viewed env a v) (viewed_indexed counts env a v stands.0 all) all) goes f)
+        argument_fine d counts env a n v (print_written text ins d inner (a + private_count v) (more n (variable_count v)) b w rest) (written within b to limits) fs stands.0 all
+        (written_fine d within inner (a + private_count v) (more n (variable_count v)) b to w rest limits fs stands.1 (pushed names counts env (counted counts v) (viewed env a v) (viewed_indexed counts env a v stands.0 all) all) goes f)
     written_fine d counts env a n (LetElement ty v b) to w rest limits fs stands all goes f =
-        let inner = push (held_view ty (n + let_variables v)) env in
+        let inner = push (held_view ty (more n (let_variables v))) env in
         let within = push no_index counts in
-        let after = print_written text ins d inner a (n + let_variables v + width ty) b w rest in
-        element_fine names (written within b to limits) fs n env v (print_assigned ty (sign_exprs env n v) (n + let_variables v) after)
-        (assigned_fine names (written within b to limits) fs ty (sign_exprs env n v) (n + let_variables v) after
-        (written_fine d within inner a (n + let_variables v + width ty) b to w rest limits fs stands (pushed names counts env no_index (held_view ty (n + let_variables v)) (held_indexed names ty (n + let_variables v)) all) goes f))
+        let after = print_written text ins d inner a (more (more n (let_variables v)) (held_count ty)) b w rest in
+        element_fine names (written within b to limits) fs n env v (print_assigned ty (sign_exprs env n v) (more n (let_variables v)) after)
+        (assigned_fine names (written within b to limits) fs ty (sign_exprs env n v) (more n (let_variables v)) after
+        (written_fine d within inner a (more (more n (let_variables v)) (held_count ty)) b to w rest limits fs stands (pushed names counts env no_index (held_view ty (more n (let_variables v))) (held_indexed names ty (more n (let_variables v))) all) goes f))
     written_fine d counts env a n (Map Sequential m ls x b) to w rest limits fs stands all goes f =
         loop_fine Sequential d counts env a n m ls x b to w rest limits fs (λ code inside r. argument_fine d counts env a n x code inside fs stands.0 all r)
         (λ counts env a n to w last gs all goes f. written_fine (suc d) counts env a n b to w last limits gs stands.1 all goes f) stands.0 all goes f
     written_fine d counts env a n (Fold m ls ty x s b) to w rest limits fs stands all goes f =
-        let start = n + variable_count x in
-        let acc = start + let_variables s in
+        let start = more n (variable_count x) in
+        let acc = more start (let_variables s) in
         let element = view_at (LoopVariable d) (viewed env a x) in
-        let held : List Bool → Option Formula = λ cs. held_sign (held_view ty acc cs []) in
+        let held : List Bool → Option Expr = λ cs. held_sign (held_view ty acc cs []) in
         let after = print_stored ty held (view_at (Number 0) w) rest in
         let at = element_nodes spell forms src counts x in
         let stored = store_limits ty (at_one_node to) limits in
@@ -119,22 +120,22 @@ module _ (names : List Name) {A : Type 0} (spell : A → Expression) (text : A �
     written_fine d counts env a n _ to w rest limits fs stands all goes f = absurd stands
 
   -- ---- over the launch
-  row_fine : (d : ℕ) (counts : ℕ → IndexNodes) (env : ℕ → View) (a n : ℕ) (t : Term A) (to : IndexNodes) (w : View) (rest : Code) (limits : List ℕ) (fs : List Formula) → StandsAlongRow t → Views counts env → IsIndexed names to w → Right limits rest fs → Right (written counts t to limits) (print_written text ins d env a n t w rest) fs
+  row_fine : (d : ℕ) (counts : ℕ → IndexNodes) (env : ℕ → View) (a : ℕ) (n : Count) (t : Term A) (to : IndexNodes) (w : View) (rest : Code) (limits : List ℕ) (fs : List Formula) → StandsAlongRow t → Views counts env → IsIndexed names to w → Right limits rest fs → Right (written counts t to limits) (print_written text ins d env a n t w rest) fs
   row_fine d counts env a n (Reshape y x) to w rest limits fs stands all goes f =
-      row_fine d counts env a n x (written_through spell y to) (λ cs is. w cs (result_indices text y is)) rest limits fs stands.1 all (written_indexed names spell text lengths y to w goes) f
+      row_fine d counts env a n x (written_through spell y to) (rewritten_view text y w) rest limits fs stands.1 all (written_indexed names spell text lengths y to w goes) f
   row_fine d counts env a n (Map Global m ls x b) to w rest limits fs stands all goes f =
       loop_fine Global d counts env a n m ls x b to w rest limits fs (λ code inside r. argument_fine d counts env a n x code inside fs stands.0 all r)
       (λ counts env a n to w last gs all goes f. written_fine (suc d) counts env a n b to w last limits gs stands.1 all goes f) stands.0 all goes f
   row_fine d counts env a n _ to w rest limits fs stands all goes f = absurd stands
 
-  pub launch_fine : (d : ℕ) (counts : ℕ → IndexNodes) (env : ℕ → View) (a n : ℕ) (t : Term A) (to : IndexNodes) (w : View) (rest : Code) (limits : List ℕ) (fs : List Formula) → StandsOverLaunch t → Views counts env → IsIndexed names to w → Right limits rest fs → Right (written counts t to limits) (print_written text ins d env a n t w rest) fs
+  pub launch_fine : (d : ℕ) (counts : ℕ → IndexNodes) (env : ℕ → View) (a : ℕ) (n : Count) (t : Term A) (to : IndexNodes) (w : View) (rest : Code) (limits : List ℕ) (fs : List Formula) → StandsOverLaunch t → Views counts env → IsIndexed names to w → Right limits rest fs → Right (written counts t to limits) (print_written text ins d env a n t w rest) fs
   launch_fine d counts env a n (Reshape y x) to w rest limits fs stands all goes f =
-      launch_fine d counts env a n x (written_through spell y to) (λ cs is. w cs (result_indices text y is)) rest limits fs stands.1 all (written_indexed names spell text lengths y to w goes) f
+      launch_fine d counts env a n x (written_through spell y to) (rewritten_view text y w) rest limits fs stands.1 all (written_indexed names spell text lengths y to w goes) f
   launch_fine d counts env a n (LetArray v b) to w rest limits fs stands all goes f =
       let inner = push (viewed env a v) env in
       let within = push (counted counts v) counts in
-      argument_fine d counts env a n v (print_written text ins d inner (a + private_count v) (n + variable_count v) b w rest) (written within b to limits) fs stands.0 all
-      (launch_fine d within inner (a + private_count v) (n + variable_count v) b to w rest limits fs stands.1 (pushed names counts env (counted counts v) (viewed env a v) (viewed_indexed counts env a v stands.0 all) all) goes f)
+      argument_fine d counts env a n v (print_written text ins d inner (a + private_count v) (more n (variable_count v)) b w rest) (written within b to limits) fs stands.0 all
+      (launch_fine d within inner (a + private_count v) (more n (variable_count v)) b to w rest limits fs stands.1 (pushed names counts env (counted counts v) (viewed env a v) (viewed_indexed counts env a v stands.0 all) all) goes f)
   launch_fine d counts env a n (Map Global m ls x b) to w rest limits fs stands all goes f = row_fine d counts env a n (Map Global m ls x b) to w rest limits fs stands all goes f
   launch_fine d counts env a n (Map GlobalRows m ls x b) to w rest limits fs stands all goes f =
       loop_fine GlobalRows d counts env a n m ls x b to w rest limits fs (λ code inside r. argument_fine d counts env a n x code inside fs stands.0 all r)

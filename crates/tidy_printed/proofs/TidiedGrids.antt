@@ -11,7 +11,7 @@ use Rattle.lift_ir.specs.Layouts.{result_position}
 use Rattle.lift_ir.specs.Terms.{LoadSet, WorkGroup, Local, WorkGroupRows, LocalRows, LocalMemory, Term, Bound, Source, Both, Project, Reshape, LetArray, Map, Copy, push}
 use Rattle.lift_ir.specs.Scalars.{at_index}
 use Rattle.printed_form.specs.Arguments.{local_arrays, marks_in}
-use Rattle.printed_form.specs.Counts.{load_count, variable_count, private_count, local_count}
+use Rattle.printed_form.specs.Counts.{Count, more, no_variables, load_count, variable_count, private_count, local_count}
 use Rattle.printed_form.specs.MapForms.{MapForm, form_over_groups, variables_in}
 use Rattle.printed_form.specs.Marks.{Marks, laid_in, loaded_marks}
 use Rattle.printed_form.specs.Form.{IsLoaded, argument_marks}
@@ -41,11 +41,11 @@ column_below : (i rows columns : ℕ) → i < rows * columns → i % columns < c
 column_below i rows columns lt = mod-lt i (some_columns i rows columns lt)
 
 module _ {A : Type 0} (num : A → ℕ) (forms : GridForms A) (l : Launch) (ins : ℕ → Marks) (tidy : Change) (keeps : KeepsValues tidy l) where
-  along_row : (item : ℕ) → item < item_count l → (around : List Around) (ts : List ℕ) → StandsIn (ids_of l item) around ts → (k a n : ℕ) (env : ℕ → Marks) (t : Term A) (w : Marks) (r : ℕ) (code rest : Code)
+  along_row : (item : ℕ) → item < item_count l → (around : List Around) (ts : List ℕ) → StandsIn (ids_of l item) around ts → (k a : ℕ) (n : Count) (env : ℕ → Marks) (t : Term A) (w : Marks) (r : ℕ) (code rest : Code)
       → IsAlongRow num forms l ins item k a n env t w ts r code rest → IsAlongRow num forms l ins item k a n env t w ts r (tidied_code tidy around code) (tidied_code tidy around rest)
   along_row item here around ts stands k a n env (Reshape y t) w r code rest h = (h.0, along_row item here around ts stands k a n env t (λ cs p. w cs (result_position num y p)) r code rest h.1)
   along_row item here around ts stands k a n env (Map Local m loads xs b) w r code rest h =
-      map_turns l item ins num tidy keeps here around ts stands (forms.columns.local m) (FromLocalId X) (ByLocalSize X) (num m) env (a + private_count xs) (n + variable_count xs) loads (marks_in local_arrays num ins env k xs) w b code rest
+      map_turns l item ins num tidy keeps here around ts stands (forms.columns.local m) (FromLocalId X) (ByLocalSize X) (num m) env (a + private_count xs) (more n (variable_count xs)) loads (marks_in local_arrays num ins env k xs) w b code rest
       (body_stays l item ins num tidy keeps here b) h
   along_row item here around ts stands k a n env _ w r code rest h = absurd h
 
@@ -78,14 +78,14 @@ module _ {A : Type 0} (num : A → ℕ) (forms : GridForms A) (l : Launch) (ins 
         turns l item ins tidy keeps here around (turn_variables i) (stands item i lt row column) (forms.rows.local len) (FromLocalId Y) (ByLocalSize Y) (num len)
         (λ ts r before after. (mid : Code)
         × IsLoaded l item ins ts loads (at_index r (marks i)) u.variables before mid
-        × IsAlongRow num forms l ins item u.locals u.privates (u.variables + load_count loads)
+        × IsAlongRow num forms l ins item u.locals u.privates (more u.variables (load_count loads))
         (push (loaded_marks loads (at_index r (marks i)) u.variables) (env i)) b (at_index r (w i))
         ts r mid after)
         code rest
         (λ inside ts at r before after turn. (
           tidied_code tidy inside turn.0,
           loaded l item ins tidy keeps here inside ts at loads (at_index r (marks i)) u.variables before turn.0 turn.1,
-          along_row item here inside ts at u.locals u.privates (u.variables + load_count loads) (push (loaded_marks loads (at_index r (marks i)) u.variables) (env i)) b (at_index r (w i)) r turn.0 after turn.2,
+          along_row item here inside ts at u.locals u.privates (more u.variables (load_count loads)) (push (loaded_marks loads (at_index r (marks i)) u.variables) (env i)) b (at_index r (w i)) r turn.0 after turn.2,
         ))
         (h item i here lt row column)
 
@@ -116,18 +116,18 @@ module _ {A : Type 0} (num : A → ℕ) (forms : GridForms A) (l : Launch) (ins 
       )
       grid_written env u _ w code rest h = absurd h
 
-    grid_turn : (n : ℕ) (env : (turn var : ℕ) → Marks) (loads : LoadSet) (marks : ℕ → Marks) (b : Term A) (w : ℕ → Marks) (code : Code)
+    grid_turn : (n : Count) (env : (turn var : ℕ) → Marks) (loads : LoadSet) (marks : ℕ → Marks) (b : Term A) (w : ℕ → Marks) (code : Code)
         → IsGridTurn num forms l ins fence rows_form columns_form grid n env loads marks b w code → IsGridTurn num forms l ins fence rows_form columns_form grid n env loads marks b w (tidied code)
     grid_turn n env loads marks b w code h = (
       tidied h.0,
       tidied h.1,
       λ item i here lt row column. loaded l item ins tidy keeps here around (turn_variables i) (stands item i lt row column) loads (marks i) n code h.0 (h.2 item i here lt row column),
-      grid_written (λ i. push (loaded_marks loads (marks i) n) (env i)) (record { locals = 0; privates = 0; variables = n + load_count loads; phases = 0 }) b w h.0 h.1 h.3,
+      grid_written (λ i. push (loaded_marks loads (marks i) n) (env i)) (record { locals = 0; privates = 0; variables = more n (load_count loads); phases = 0 }) b w h.0 h.1 h.3,
       past tidy around (fence (phases_in b)) h.1 End h.4,
     )
 
   -- within the map over rows of groups
-  along_groups : (fence : ℕ → Fencing) (once : Bool) (rows : ℕ) (bound : Formula) → bound_value l.sizes bound ≡ Some rows → (n : ℕ) (env : (row var : ℕ) → Marks) (t : Term A) (w : ℕ → Marks) (code : Code)
+  along_groups : (fence : ℕ → Fencing) (once : Bool) (rows : ℕ) (bound : Formula) → bound_value l.sizes bound ≡ Some rows → (n : Count) (env : (row var : ℕ) → Marks) (t : Term A) (w : ℕ → Marks) (code : Code)
       → IsAlongGroups num forms l ins fence (form_over_groups once) rows n env t w code
       → IsAlongGroups num forms l ins fence (form_over_groups once) rows n env t w (tidied_code tidy (statement_in once (FromGroupId Y) bound ∷ []) code)
   along_groups fence once rows bound is n env (Reshape y t) w code h = (h.0, along_groups fence once rows bound is n env t (λ r cs p. w r cs (result_position num y p)) code h.1)
@@ -155,8 +155,8 @@ module _ {A : Type 0} (num : A → ℕ) (forms : GridForms A) (l : Launch) (ins 
         ap (tidied_code tidy []) h.3 ∙ tidied_statement tidy [] once (FromGroupId Y) (ByGroupCount Y) h.0 h.1,
         keeps.bound h.0 (num n) h.4,
         λ item r here lt row.
-            loaded l item ins tidy keeps here inside (variables_in (form_over_groups once) [] r) (entered l item [] [] once (FromGroupId Y) (ByGroupCount Y) h.0 (num n) r tt h.4 lt row) loads (at_index r x) 0 h.1 h.2 (h.5 item r here lt row),
-        along_groups fence once (num n) h.0 h.4 (load_count loads) (λ r. push (loaded_marks loads (at_index r x) 0) env) b (λ r. at_index r w) h.2 h.6,
+            loaded l item ins tidy keeps here inside (variables_in (form_over_groups once) [] r) (entered l item [] [] once (FromGroupId Y) (ByGroupCount Y) h.0 (num n) r tt h.4 lt row) loads (at_index r x) no_variables h.1 h.2 (h.5 item r here lt row),
+        along_groups fence once (num n) h.0 h.4 (load_count loads) (λ r. push (loaded_marks loads (at_index r x) no_variables) env) b (λ r. at_index r w) h.2 h.6,
       )
   over_grid fence env _ w code h = absurd h
 

@@ -8,7 +8,7 @@ use Rattle.barrier_placement.specs.Fencing.{Fencing, Open, Fenced}
 use Rattle.lift_ir.specs.Layouts.{result_position}
 use Rattle.lift_ir.specs.Terms.{LoadSet, WorkGroup, Local, LocalMemory, Term, Bound, Source, Both, Project, Reshape, LetArray, Map, Copy, push}
 use Rattle.lift_ir.specs.Scalars.{at_index}
-use Rattle.printed_form.specs.Counts.{load_count, local_count}
+use Rattle.printed_form.specs.Counts.{no_variables, load_count, local_count}
 use Rattle.printed_form.specs.MapForms.{MapForm, MapForms, form_over_groups, statement_over_groups, variables_in}
 use Rattle.printed_form.specs.Marks.{Marks, laid_in, loaded_marks}
 use Rattle.printed_form.specs.Form.{start_of, stride_of, IsTurnOf, argument_marks}
@@ -87,8 +87,8 @@ module _ {A : Type 0} (loaded : TidiedLoadsArePrinted) (mapped : TidiedMapsArePr
     group_turn env loads marks b w code h = (
       tidied h.0,
       tidied h.1,
-      λ item i here lt own. loaded l item ins tidy around (variables_in outer [] i) loads (at_index i marks) 0 code h.0 keeps here (stands item i lt own) (h.2 item i here lt own),
-      group_written (λ i. push (loaded_marks loads (at_index i marks) 0) env) (record { locals = 0; privates = 0; variables = load_count loads; phases = 0 }) b (λ i. at_index i w) h.0 h.1 h.3,
+      λ item i here lt own. loaded l item ins tidy around (variables_in outer [] i) loads (at_index i marks) no_variables code h.0 keeps here (stands item i lt own) (h.2 item i here lt own),
+      group_written (λ i. push (loaded_marks loads (at_index i marks) no_variables) env) (record { locals = 0; privates = 0; variables = load_count loads; phases = 0 }) b (λ i. at_index i w) h.0 h.1 h.3,
       past tidy around (fence (phases_in b)) h.1 End h.4,
     )
 

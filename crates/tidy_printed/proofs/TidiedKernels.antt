@@ -8,7 +8,7 @@ use Rattle.lift_ir.specs.AtLaunch.{length_at, ty_at}
 use Rattle.lift_ir.specs.Layouts.{result_position}
 use Rattle.lift_ir.specs.Terms.{Global, GlobalRows, Term, Reshape, LetArray, Map, push}
 use Rattle.lift_ir.specs.Scalars.{at_index}
-use Rattle.printed_form.specs.Counts.{load_count, variable_count, private_count}
+use Rattle.printed_form.specs.Counts.{Count, more, no_variables, load_count, variable_count, private_count}
 use Rattle.printed_form.specs.MapForms.{Looped}
 use Rattle.printed_form.specs.Marks.{Marks, loaded_marks}
 use Rattle.printed_form.specs.Form.{argument_marks, IsLoaded}
@@ -27,47 +27,47 @@ use Rattle.tidy_printed.proofs.Statements.{loaded, loop}
 use Rattle.tidy_printed.proofs.TidiedTerms.{argument, written, maps_are}
 
 module _ {A : Type 0} (l : Launch) (item : ℕ) (ins : ℕ → Marks) (num : A → ℕ) (tidy : Change) (keeps : KeepsValues tidy l) (in_launch : item < item_count l) where
-  along_row : (around : List Around) (ts : List ℕ) → StandsIn (ids_of l item) around ts → (env : ℕ → Marks) (a n : ℕ) (t : Term A) (w : Marks) (code rest : Code)
+  along_row : (around : List Around) (ts : List ℕ) → StandsIn (ids_of l item) around ts → (env : ℕ → Marks) (a : ℕ) (n : Count) (t : Term A) (w : Marks) (code rest : Code)
       → IsAlongRow l item ins num ts env a n t w code rest → IsAlongRow l item ins num ts env a n t w (tidied_code tidy around code) (tidied_code tidy around rest)
   along_row around ts stands env a n (Reshape y t) w code rest h = (h.0, along_row around ts stands env a n t (λ cs q. w cs (result_position num y q)) code rest h.1)
   along_row around ts stands env a n (Map Global len loads xs b) w code rest h = (
     tidied_code tidy around h.0,
     argument l item ins num tidy keeps in_launch around ts stands env a n xs code h.0 h.1,
-    maps_are l item ins num tidy around ts Looped Global (num len) env (a + private_count xs) (n + variable_count xs) loads (argument_marks l ins num env a xs) w b h.0 rest keeps in_launch stands h.2,
+    maps_are l item ins num tidy around ts Looped Global (num len) env (a + private_count xs) (more n (variable_count xs)) loads (argument_marks l ins num env a xs) w b h.0 rest keeps in_launch stands h.2,
   )
   along_row around ts stands env a n _ w code rest h = absurd h
 
-  over_launch : (env : ℕ → Marks) (a n : ℕ) (t : Term A) (w : Marks) (code rest : Code)
+  over_launch : (env : ℕ → Marks) (a : ℕ) (n : Count) (t : Term A) (w : Marks) (code rest : Code)
       → IsOverLaunch l item ins num env a n t w code rest → IsOverLaunch l item ins num env a n t w (tidied_code tidy [] code) (tidied_code tidy [] rest)
   over_launch env a n (Reshape y t) w code rest h = (h.0, over_launch env a n t (λ cs q. w cs (result_position num y q)) code rest h.1)
   over_launch env a n (LetArray v b) w code rest h = (
     tidied_code tidy [] h.0,
     argument l item ins num tidy keeps in_launch [] [] tt env a n v code h.0 h.1,
-    over_launch (push (argument_marks l ins num env a v) env) (a + private_count v) (n + variable_count v) b w h.0 rest h.2,
+    over_launch (push (argument_marks l ins num env a v) env) (a + private_count v) (more n (variable_count v)) b w h.0 rest h.2,
   )
   over_launch env a n (Map Global len loads xs b) w code rest h = along_row [] [] tt env a n (Map Global len loads xs b) w code rest h
   over_launch env a n (Map GlobalRows len loads xs b) w code rest h =
       let x = argument_marks l ins num env a xs in
-      let m = n + variable_count xs in
+      let m = more n (variable_count xs) in
       let inner_env : ℕ → ℕ → Marks = λ i. push (loaded_marks loads (at_index i x) m) env in (
         tidied_code tidy [] h.0,
         argument l item ins num tidy keeps in_launch [] [] tt env a n xs code h.0 h.1,
         loop l item ins tidy keeps in_launch [] [] tt GlobalRows (num len)
             (λ i body. (inner : Code) × IsLoaded l item ins ([] ++ i ∷ []) loads (at_index i x) m body inner
-            × IsAlongRow l item ins num ([] ++ i ∷ []) (inner_env i) (a + private_count xs) (m + load_count loads) b (at_index i w) inner End)
+            × IsAlongRow l item ins num ([] ++ i ∷ []) (inner_env i) (a + private_count xs) (more m (load_count loads)) b (at_index i w) inner End)
             h.0 rest
             (λ bound i body at turn. (
               tidied_code tidy (InLoop bound ∷ []) turn.0,
               loaded l item ins tidy keeps in_launch (InLoop bound ∷ []) (i ∷ []) at loads (at_index i x) m body turn.0 turn.1,
-              along_row (InLoop bound ∷ []) (i ∷ []) at (inner_env i) (a + private_count xs) (m + load_count loads) b (at_index i w) turn.0 End turn.2,
+              along_row (InLoop bound ∷ []) (i ∷ []) at (inner_env i) (a + private_count xs) (more m (load_count loads)) b (at_index i w) turn.0 End turn.2,
             ))
             h.2,
       )
   over_launch env a n _ w code rest h = absurd h
 
 pub code_is : TidiedCodesArePrinted (List Monomial)
-code_is l ins num tidy t ty code keeps (inl h) = inl (h.0, written l 0 ins num tidy keeps (let one = h.0 in omega arith) [] [] tt no_marks 0 0 t (output_marks ty) code End h.1)
-code_is l ins num tidy t ty code keeps (inr h) = inr (λ item lt. over_launch l item ins num tidy keeps lt no_marks 0 0 t (output_marks ty) code End (h item lt))
+code_is l ins num tidy t ty code keeps (inl h) = inl (h.0, written l 0 ins num tidy keeps (let one = h.0 in omega arith) [] [] tt no_marks 0 no_variables t (output_marks ty) code End h.1)
+code_is l ins num tidy t ty code keeps (inr h) = inr (λ item lt. over_launch l item ins num tidy keeps lt no_marks 0 no_variables t (output_marks ty) code End (h item lt))
 
 pub kernel_is : TidiedCodesArePrinted (List Monomial) → TidiedGroupCodesArePrinted (List Monomial) → TidiedGridCodesArePrinted (List Monomial) → TidiedKernelsArePrinted
 kernel_is codes group_codes grid_codes OfItems d size bases t a l tidy k keeps h = record {

@@ -1,14 +1,15 @@
 -- How many nodes each index and each bound of a term's kernel may have: an index as many as the
--- formulas of its array and of the layouts around it put into one another, a bound as many as its
--- length. They stand in the order of the kernel's statements.
-use Rattle.std.specs.Prelude.{ℕ, Bool, true, false, List, [], ◌∷◌, Option, Some, None}
+-- formulas of its array and of the layouts around it put into one another, an offset of four as
+-- many as the vector's index or as its first scalar's by 4, a bound as many as its length. They
+-- stand in the order of the kernel's statements.
+use Rattle.std.specs.Prelude.{ℕ, ◌+◌, max, Bool, true, false, List, [], ◌∷◌, Option, Some, None, option_map}
 use Rattle.lift_tree.specs.Annotations.{Annotation, type_in}
 use Rattle.lift_tree.specs.Tree.{Tree}
 use Rattle.lift_tree.specs.Typing.{Declared}
 use Rattle.lift_ir.specs.AtLaunch.{shape_of}
-use Rattle.lift_ir.specs.Layouts.{Layout}
+use Rattle.lift_ir.specs.Layouts.{Layout, Split, Join}
 use Rattle.lift_ir.specs.Types.{Shape, Ty, Scalar, PairOf, ArrayOf}
-use Rattle.lift_ir.specs.Terms.{LoadSet, Skip, Take, Each, Kind, Global, WorkGroup, Local, Sequential, GlobalRows, WorkGroupRows, LocalRows, Term, Bound, Source, Both, Project, Reshape, LetArray, LetElement, Map, Fold, Store, Copy, push}
+use Rattle.lift_ir.specs.Terms.{LoadSet, Skip, Take, TakeFour, Each, Kind, Global, WorkGroup, Local, Sequential, GlobalRows, WorkGroupRows, LocalRows, Term, Bound, Source, Both, Project, Reshape, LetArray, LetElement, Map, Fold, Store, Copy, push}
 use Rattle.lift_ir.specs.Scalars.{by_side}
 use Rattle.index_expr.specs.Expression.{Expression, Literal, short_nodes}
 use Rattle.length_spelling.specs.Formulas.{spelled_length}
@@ -16,12 +17,12 @@ use Rattle.printed_form.specs.MapForms.{MapForm, Looped, Guarded, Alone, form_ov
 use Rattle.printed_form.specs.Programs.{input_shape, lowered_root}
 use Rattle.array_views.specs.Arrays.{spelled_shape}
 use Rattle.array_views.specs.Layouts.{spelled_layout}
-use Rattle.array_views.specs.NodeCounts.{operand_nodes, result_nodes, placed_nodes}
+use Rattle.array_views.specs.NodeCounts.{node_counts, operand_nodes, result_nodes, placed_nodes}
 use Rattle.group_form.specs.GridChosen.{grid_forms_of}
 use Rattle.group_form.specs.GridTerms.{GridForms}
 
--- how many nodes the index of a scalar may have, by its pair choices and the nodes of the indices;
--- none where no array holds it
+-- how many nodes the index of a scalar, or the offset of a vector, may have, by its pair choices
+-- and the nodes of the indices; none where no array holds it
 abbrev pub IndexNodes : Type 0
 IndexNodes = List Bool → List ℕ → Option ℕ
 
@@ -37,6 +38,7 @@ at_one_node x = λ cs ns. x cs (1 ∷ ns)
 abbrev pub after_loads : LoadSet → IndexNodes → IndexNodes
 after_loads Skip x = x
 after_loads Take x = no_index
+after_loads TakeFour x = no_index
 after_loads (Each a b) x =
     by_side (λ ns. None) (after_loads a (λ cs. x (false ∷ cs)))
     (after_loads b (λ cs. x (true ∷ cs)))
@@ -46,17 +48,18 @@ abbrev pub index_limit : Option ℕ → (after : List ℕ) → List ℕ
 index_limit None after = after
 index_limit (Some n) after = n ∷ after
 
--- one store for each component
+-- one store for each component, of four words for a vector
 abbrev pub store_limits : Ty → IndexNodes → (after : List ℕ) → List ℕ
 store_limits Scalar to after = index_limit (to [] []) after
 store_limits (PairOf a b) to after =
     store_limits a (λ cs. to (false ∷ cs)) (store_limits b (λ cs. to (true ∷ cs)) after)
-store_limits (ArrayOf m t) to after = after
+store_limits (ArrayOf m t) to after = index_limit (to [] []) after
 
--- one load for each of these components
+-- one load for each of these components, of four words for a vector
 abbrev pub load_limits : LoadSet → IndexNodes → (after : List ℕ) → List ℕ
 load_limits Skip x after = after
 load_limits Take x after = index_limit (x [] []) after
+load_limits TakeFour x after = index_limit (x [] []) after
 load_limits (Each a b) x after =
     load_limits a (λ cs. x (false ∷ cs)) (load_limits b (λ cs. x (true ∷ cs)) after)
 
@@ -80,13 +83,22 @@ form_of_map forms WorkGroupRows n = form_over_groups (forms.rows.once n)
 abbrev pub array_nodes : {A : Type 0} → (A → Expression) → Shape A → IndexNodes
 array_nodes spell t = λ cs ns. Some (placed_nodes short_nodes (spelled_shape spell t) ns)
 
--- and of a value that is read through a layout, from its result to its operand
+-- the number of the row at an index, of cells that stand so: the index, or that of the row's first
+-- cell by its length
+abbrev pub row_through : (length index : ℕ) → (cells : List ℕ → Option ℕ) → Option ℕ
+row_through m n x =
+    option_map (λ first. max n (first + m + 1)) (x (node_counts.cell n m 1 ∷ []))
+
+-- and of a value that is read through a layout, from its result to its operand; a row is asked for
+-- whole where it is a vector
 abbrev pub read_through : {A : Type 0} → (A → Expression) → Layout A → IndexNodes → IndexNodes
-read_through spell y x = λ cs ns. x cs (operand_nodes short_nodes (spelled_layout spell y) ns)
+read_through spell (Split m) x cs (n ∷ []) = row_through (short_nodes (spell m)) n (x cs)
+read_through spell y x cs ns = x cs (operand_nodes short_nodes (spelled_layout spell y) ns)
 
 -- and where it is written through one, from its operand to its result
 abbrev pub written_through : {A : Type 0} → (A → Expression) → Layout A → IndexNodes → IndexNodes
-written_through spell y to = λ cs ns. to cs (result_nodes short_nodes (spelled_layout spell y) ns)
+written_through spell (Join m) to cs (n ∷ []) = row_through (short_nodes (spell m)) n (to cs)
+written_through spell y to cs ns = to cs (result_nodes short_nodes (spelled_layout spell y) ns)
 
 -- lengths are spelled so, maps have these forms, and inputs these types
 module _ {A : Type 0} (spell : A → Expression) (forms : GridForms A) (src : ℕ → Shape A) where

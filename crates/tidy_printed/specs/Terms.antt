@@ -1,5 +1,5 @@
 -- What is printed for a term is printed for it when it is tidied: indices and bounds keep values.
-use Rattle.std.specs.Prelude.{ℕ, ◌+◌, ◌<◌, List, [], Option}
+use Rattle.std.specs.Prelude.{ℕ, ◌<◌, List, [], Option}
 use Rattle.lift_tree.specs.Tree.{Tree}
 use Rattle.lift_tree.specs.Typing.{Declared}
 use Rattle.lift_tree.specs.Annotations.{Annotation}
@@ -9,7 +9,7 @@ use Rattle.barrier_placement.specs.Fencing.{Fencing}
 use Rattle.lift_ir.specs.Types.{Ty}
 use Rattle.lift_ir.specs.Terms.{LoadSet, Kind, Term, push}
 use Rattle.lift_ir.specs.Scalars.{at_index}
-use Rattle.printed_form.specs.Counts.{load_count}
+use Rattle.printed_form.specs.Counts.{Count, more, load_count}
 use Rattle.printed_form.specs.Marks.{Marks, loaded_marks}
 use Rattle.printed_form.specs.Form.{IsLoaded, IsWritten}
 use Rattle.printed_form.specs.MapForms.{MapForm, MapForms, TurnCode, AreTurns}
@@ -24,18 +24,18 @@ use Rattle.tidy_kernels.specs.Pass.{tidied_code, tidied_kernel}
 
 module _ {A : Type 0} (l : Launch) (item : ℕ) (ins : ℕ → Marks) (num : A → ℕ) where
   -- a turn of a map: the loads of its element, and what is written for the map's body
-  abbrev pub IsMapTurn : (env : ℕ → Marks) → (a n : ℕ) → LoadSet → (from to : Marks) → Term A
+  abbrev pub IsMapTurn : (env : ℕ → Marks) → (a : ℕ) → (n : Count) → LoadSet → (from to : Marks) → Term A
       → TurnCode
   IsMapTurn env a n loads x w b ts i body last =
       (inner : Code) × IsLoaded l item ins ts loads (at_index i x) n body inner
       × IsWritten l item ins num ts (push (loaded_marks loads (at_index i x) n) env) a
-      (n + load_count loads) b (at_index i w) inner last
+      (more n (load_count loads)) b (at_index i w) inner last
 
 -- in these loops and ifs, at these turns
 abbrev pub TidiedLoadsArePrinted : Type 0
 TidiedLoadsArePrinted =
     (l : Launch) (item : ℕ) (ins : ℕ → Marks) (tidy : Change) (around : List Around)
-    (ts : List ℕ) (loads : LoadSet) (x : Marks) (n : ℕ) (code rest : Code)
+    (ts : List ℕ) (loads : LoadSet) (x : Marks) (n : Count) (code rest : Code)
     → KeepsValues tidy l → item < item_count l → StandsIn (ids_of l item) around ts
     → IsLoaded l item ins ts loads x n code rest
     → IsLoaded l item ins ts loads x n (tidied_code tidy around code) (tidied_code tidy around rest)
@@ -45,7 +45,8 @@ abbrev pub TidiedMapsArePrinted : Type 0 → Type 0
 TidiedMapsArePrinted A =
     (l : Launch) (item : ℕ) (ins : ℕ → Marks) (num : A → ℕ) (tidy : Change)
     (around : List Around) (ts : List ℕ) (form : MapForm) (kind : Kind) (len : ℕ)
-    (env : ℕ → Marks) (a n : ℕ) (loads : LoadSet) (x w : Marks) (b : Term A) (code rest : Code)
+    (env : ℕ → Marks) (a : ℕ) (n : Count) (loads : LoadSet) (x w : Marks) (b : Term A)
+    (code rest : Code)
     → KeepsValues tidy l → item < item_count l → StandsIn (ids_of l item) around ts
     → AreTurns l item ins form kind ts len (IsMapTurn l item ins num env a n loads x w b) code rest
     → AreTurns l item ins form kind ts len (IsMapTurn l item ins num env a n loads x w b)

@@ -23,7 +23,8 @@ pub record IsTidyIndex (most : ℕ) (f : Formula) : Type 0 where
   pub short : formula_nodes f ≤ most
 
 -- so is each index of the kernel, which has no more nodes than the term's formulas put into one
--- another, and each bound, which has no more than its length
+-- another, each offset of four, which has no more than the vector's index or its first scalar's by
+-- 4, and each bound, which has no more than its length
 abbrev pub IsTidyFor : Declared → (local : Option (ℕ × ℕ)) → Tree → Annotation → Kernel → Type 0
 IsTidyFor d local t a k = EachWithin IsTidyIndex (limits_of d local t a) (indices_then k.code [])
 

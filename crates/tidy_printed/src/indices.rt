@@ -1,6 +1,6 @@
 //! Laws of the indices and bounds of printed kernels, each carried by a function that does nothing.
 
-ghost use Rattle.tidy_printed.specs.TidyLaws.{TermsHaveIndexFormulas, TidiedCodesAreTidy, TidiedTermsAreTidy, TidyFormulasMakeTidy};
+ghost use Rattle.tidy_printed.specs.TidyLaws.{TermsHaveIndexFormulas, TidiedCodesAreTidy, TidiedTermsAreTidy, TidyFormulasMakeTidy, TurnsStay};
 
 use tidy_indices::laws::{tidy_formulas_are_irredundant, tidy_formulas_are_short};
 
@@ -20,6 +20,12 @@ pub fn tidied_codes_are_tidy()
 /// Such a kernel of a typed term, tidied, is tidy for the term.
 pub fn tidied_terms_are_tidy()
     ensures { TidiedTermsAreTidy }
+{}
+
+/// A loop's variable or an id alone stays when it is made tidy: so does the offset of a vector at a
+/// turn, in a loop of one turn too.
+pub fn turns_stay()
+    ensures { TurnsStay }
 {}
 
 /// Tidy formulas are such.

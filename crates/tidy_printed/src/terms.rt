@@ -35,8 +35,8 @@ pub fn tidied_grid_codes_are_printed()
     ensures { TidiedGridCodesArePrinted (List Monomial) }
 {}
 
-/// A kernel that is printed for a program's typed term at a launch, by whichever printer, is printed
-/// for it when it is tidied, where indices and bounds keep their values at the launch.
+/// A kernel that is printed for a program's typed term at a launch, by whichever printer, is
+/// printed for it when it is tidied, where indices and bounds keep their values at the launch.
 pub fn tidied_kernels_are_printed()
     ensures { TidiedKernelsArePrinted }
 {

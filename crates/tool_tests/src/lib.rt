@@ -26,6 +26,8 @@ mod nests;
 #[cfg(test)]
 mod outside;
 #[cfg(test)]
+mod rare;
+#[cfg(test)]
 mod refusals;
 #[cfg(test)]
 mod terms;
@@ -35,3 +37,5 @@ mod traces;
 mod two_dimensions;
 #[cfg(test)]
 mod values;
+#[cfg(test)]
+mod vectors;

@@ -6,28 +6,20 @@ use Rattle.std.proofs.Math.Seq.{get_or-append_right}
 use Rattle.lift_tree.specs.Launches.{lists_of}
 use Rattle.lift_tree.specs.Limits.{components}
 use Rattle.lift_tree.specs.Lists.{Every}
-use Rattle.lift_tree.specs.Types.{PlainTy, U32, PairOf, ArrayOf, IsElement, HoldsElements, HasType}
+use Rattle.lift_tree.specs.Types.{PlainTy, U32, U32x4, PairOf, ArrayOf, IsNumber, HoldsElements, HasType}
 use Rattle.lift_tree.specs.Values.{Value, Word, Side, Left, Right, array, list_of}
-use Rattle.value_lists.specs.Lists.{length_at, scalars, list_lengths}
+use Rattle.value_lists.specs.Lists.{length_at, scalars_at, list_lengths}
 
 -- a way to a component
 abbrev pub Leads : PlainTy → List Side → Type 0
 Leads U32 [] = Unit {0}
 Leads U32 (c ∷ cs) = ⊥
+Leads U32x4 [] = Unit {0}
+Leads U32x4 (c ∷ cs) = ⊥
 Leads (PairOf a b) [] = ⊥
 Leads (PairOf a b) (Left ∷ cs) = Leads a cs
 Leads (PairOf a b) (Right ∷ cs) = Leads b cs
 Leads (ArrayOf a n) cs = Leads a cs
-
-pub holds_elements : (a : PlainTy) → IsElement a → HoldsElements a
-holds_elements U32 e = tt
-holds_elements (PairOf a b) e = e
-holds_elements (ArrayOf a n) e = absurd e
-
-pub one_scalar : (ys : List ℕ) (a : PlainTy) → IsElement a → scalars ys a ≡ 1
-one_scalar ys U32 e = refl
-one_scalar ys (PairOf a b) e = refl
-one_scalar ys (ArrayOf a n) e = absurd e
 
 -- ---- rows one after another
 pub rows_long : (xs : List Value) (sides : List Side) (m : ℕ) → ((i : ℕ) → i < length xs → length (list_of (get_or xs i (Word 0)) sides) ≡ m) → length (list_of (array xs) sides) ≡ length xs * m
@@ -60,18 +52,22 @@ pub as_long : (ys : List ℕ) (a : PlainTy) (n : _) (v : Value) (h : HasType ys 
 as_long ys a n v h = ap nat_abs (sym h.2)
 
 -- ---- one list
-pub list_long : (ys : List ℕ) (a : PlainTy) (v : Value) (cs : List Side) → HoldsElements a → Leads a cs → HasType ys a v → length (list_of v cs) ≡ scalars ys a
-list_long ys U32 v [] f l h = ap (λ x. length (list_of x [])) h.1
-list_long ys U32 v (c ∷ cs) f l h = absurd l
-list_long ys (PairOf a b) v [] f l h = absurd l
-list_long ys (PairOf a b) v (Left ∷ cs) f l h =
-    ap (λ x. length (list_of x (Left ∷ cs))) h.2 ∙ list_long ys a h.0 cs (holds_elements a f.0) l h.3 ∙ one_scalar ys a f.0
-list_long ys (PairOf a b) v (Right ∷ cs) f l h =
-    ap (λ x. length (list_of x (Right ∷ cs))) h.2 ∙ list_long ys b h.1 cs (holds_elements b f.1) l h.4 ∙ one_scalar ys b f.1
-list_long ys (ArrayOf a n) v cs f l h =
+-- a number is one scalar
+pub one_long : (xs : List Value) → Every IsNumber xs → (i : ℕ) → i < length xs → length (list_of (get_or xs i (Word 0)) []) ≡ 1
+one_long xs all i lt = ap (λ x. length (list_of x [])) (every_at IsNumber xs all i lt).1
+
+pub list_long : (ys : List ℕ) (a : PlainTy) (v : Value) (cs : List Side) → Leads a cs → HasType ys a v → length (list_of v cs) ≡ scalars_at ys a cs
+list_long ys U32 v [] l h = ap (λ x. length (list_of x [])) h.1
+list_long ys U32 v (c ∷ cs) l h = absurd l
+list_long ys U32x4 v [] l h = ap (λ x. length (list_of x [])) h.1 ∙ rows_long h.0 [] 1 (one_long h.0 h.3) ∙ ap (λ n. n * 1) h.2
+list_long ys U32x4 v (c ∷ cs) l h = absurd l
+list_long ys (PairOf a b) v [] l h = absurd l
+list_long ys (PairOf a b) v (Left ∷ cs) l h = ap (λ x. length (list_of x (Left ∷ cs))) h.2 ∙ list_long ys a h.0 cs l h.3
+list_long ys (PairOf a b) v (Right ∷ cs) l h = ap (λ x. length (list_of x (Right ∷ cs))) h.2 ∙ list_long ys b h.1 cs l h.4
+list_long ys (ArrayOf a n) v cs l h =
     ap (λ x. length (list_of x cs)) h.1
-    ∙ rows_long h.0 cs (scalars ys a) (λ i lt. list_long ys a (get_or h.0 i (Word 0)) cs f l (every_at (HasType ys a) h.0 h.3 i lt))
-    ∙ ap (λ x. x * scalars ys a) (sym (as_long ys a n v h))
+    ∙ rows_long h.0 cs (scalars_at ys a cs) (λ i lt. list_long ys a (get_or h.0 i (Word 0)) cs l (every_at (HasType ys a) h.0 h.3 i lt))
+    ∙ ap (λ x. x * scalars_at ys a cs) (sym (as_long ys a n v h))
 
 -- ---- all of them
 pub leads_left : (a b : PlainTy) (cs : List (List Side)) → Every (Leads a) cs → Every (Leads (PairOf a b)) (map (λ c. Left ∷ c) cs)
@@ -92,14 +88,15 @@ array_leads a n (c ∷ cs) h = (h.0, array_leads a n cs h.1)
 
 pub all_lead : (a : PlainTy) → Every (Leads a) (components a)
 all_lead U32 = (tt, tt)
+all_lead U32x4 = (tt, tt)
 all_lead (PairOf a b) = every_append (Leads (PairOf a b)) (map (λ c. Left ∷ c) (components a)) (map (λ c. Right ∷ c) (components b)) (leads_left a b (components a) (all_lead a)) (leads_right a b (components b) (all_lead b))
 all_lead (ArrayOf a n) = array_leads a n (components a) (all_lead a)
 
-each_long : (ys : List ℕ) (a : PlainTy) (v : Value) → HoldsElements a → HasType ys a v → (cs : List (List Side)) → Every (Leads a) cs → map length (map (list_of v) cs) ≡ map (λ c. scalars ys a) cs
-each_long ys a v f h [] l = refl
-each_long ys a v f h (c ∷ cs) l =
-    ap (λ n. n ∷ map length (map (list_of v) cs)) (list_long ys a v c f l.0 h)
-    ∙ ap (λ ns. scalars ys a ∷ ns) (each_long ys a v f h cs l.1)
+each_long : (ys : List ℕ) (a : PlainTy) (v : Value) → HasType ys a v → (cs : List (List Side)) → Every (Leads a) cs → map length (map (list_of v) cs) ≡ map (scalars_at ys a) cs
+each_long ys a v h [] l = refl
+each_long ys a v h (c ∷ cs) l =
+    ap (λ n. n ∷ map length (map (list_of v) cs)) (list_long ys a v c l.0 h)
+    ∙ ap (λ ns. scalars_at ys a c ∷ ns) (each_long ys a v h cs l.1)
 
 pub lists_have_lengths : (ys : List ℕ) (a : PlainTy) (v : Value) → HoldsElements a → HasType ys a v → map length (lists_of a v) ≡ list_lengths ys a
-lists_have_lengths ys a v f h = each_long ys a v f h (components a) (all_lead a)
+lists_have_lengths ys a v f h = each_long ys a v h (components a) (all_lead a)

@@ -4,3 +4,4 @@ pub mod Held
 pub mod Listing
 pub mod Small
 pub mod Typed
+pub mod Blank

@@ -10,7 +10,7 @@ use Rattle.size_arith.specs.Polynomial.{value_at, times}
 use Rattle.size_arith.specs.Ranges.{AreNames, Admissible}
 use Rattle.size_arith.proofs.Values.{value-times}
 use Rattle.size_arith.proofs.Soundness.{shown_at_least, sound_largest}
-use Rattle.lift_tree.specs.Types.{PlainTy, U32, PairOf, ArrayOf, IsFormed, IsOutput}
+use Rattle.lift_tree.specs.Types.{PlainTy, U32, U32x4, PairOf, ArrayOf, IsFormed, IsOutput}
 use Rattle.lift_tree.specs.Limits.{HasFewScalars, ScalarsAreFew}
 use Rattle.value_lists.specs.Lists.{length_at, IsSmall}
 
@@ -22,6 +22,7 @@ module _ (names : List Name) (ys : List ℕ) (are : AreNames names) (ok : Admiss
   -- where the product of the lengths outside is k
   few : (a : PlainTy) (p : List Monomial) (k : ℕ) → value_at ys p ≡ pos k → 1 ≤ k → IsFormed names a → ScalarsAreFew names p a → (k ≤ 2147483647) × IsSmall ys k a
   few U32 p k e least formed h = let b = sound_largest names p ys are ok in let c : k ≤ 2147483647 = omega (arith, ints) in (c, omega arith)
+  few U32x4 p k e least formed h = let b = sound_largest names p ys are ok in let c : k * 4 ≤ 2147483647 = omega (arith, ints) in (omega arith, omega arith)
   few (PairOf a b) p k e least formed h =
       let l = few a p k e least formed.0 h.0 in
       let r = few b p k e least formed.1 h.1 in
@@ -41,6 +42,7 @@ module _ (names : List Name) (ys : List ℕ) (are : AreNames names) (ok : Admiss
 
   pub typed_outputs_are_small : (a : PlainTy) → IsOutput a → IsFormed names a → HasFewScalars names a → IsSmall ys 1 a
   typed_outputs_are_small U32 o formed h = absurd o
+  typed_outputs_are_small U32x4 o formed h = absurd o
   typed_outputs_are_small (PairOf a b) o formed h = absurd o
   typed_outputs_are_small (ArrayOf a n) o formed h =
       let m = natural (value_at ys n) (shown_at_least names ys are ok 1 n formed.0) in

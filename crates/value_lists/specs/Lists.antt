@@ -4,7 +4,7 @@ use Rattle.size_arith.specs.declared.poly.Monomial.{Monomial}
 use Rattle.size_arith.specs.Polynomial.{value_at}
 use Rattle.lift_tree.specs.InputTypes.{Written, Number, Pair, Array}
 use Rattle.lift_tree.specs.Limits.{components}
-use Rattle.lift_tree.specs.Types.{PlainTy, U32, PairOf, ArrayOf}
+use Rattle.lift_tree.specs.Types.{PlainTy, U32, U32x4, PairOf, ArrayOf}
 use Rattle.lift_tree.specs.Values.{Value, Word, Both, Side, Left, Right, array, list_of}
 
 -- ---- ways through pairs, as code has them
@@ -26,26 +26,38 @@ lists_below way a v = map (λ c. list_of v (way ++ c)) (ways a)
 abbrev pub length_at : List ℕ → List Monomial → ℕ
 length_at ys n = nat_abs (value_at ys n)
 
--- how many scalars a component has, where pairs hold elements only
+-- how many scalars each component has, where pairs hold numbers only
 abbrev pub scalars : List ℕ → PlainTy → ℕ
 scalars ys U32 = 1
+scalars ys U32x4 = 4
 scalars ys (PairOf a b) = 1
 scalars ys (ArrayOf a n) = length_at ys n * scalars ys a
+
+-- how many scalars the component has to which this way leads
+abbrev pub scalars_at : List ℕ → PlainTy → List Side → ℕ
+scalars_at ys U32 cs = 1
+scalars_at ys U32x4 cs = 4
+scalars_at ys (PairOf a b) [] = 0
+scalars_at ys (PairOf a b) (Left ∷ cs) = scalars_at ys a cs
+scalars_at ys (PairOf a b) (Right ∷ cs) = scalars_at ys b cs
+scalars_at ys (ArrayOf a n) cs = length_at ys n * scalars_at ys a cs
 
 -- how many components
 abbrev pub width : PlainTy → ℕ
 width U32 = 1
+width U32x4 = 1
 width (PairOf a b) = width a + width b
 width (ArrayOf a n) = width a
 
 -- the lengths of the lists of a value of this type
 abbrev pub list_lengths : List ℕ → PlainTy → List ℕ
-list_lengths ys a = map (λ c. scalars ys a) (components a)
+list_lengths ys a = map (scalars_at ys a) (components a)
 
 -- lengths are below 2^32, and so many values of the type have at most
 -- 2^32 scalars in each component
 abbrev pub IsSmall : List ℕ → (count : ℕ) → PlainTy → Type 0
 IsSmall ys count U32 = count ≤ 2 ^ 32
+IsSmall ys count U32x4 = count * 4 ≤ 2 ^ 32
 IsSmall ys count (PairOf a b) = IsSmall ys count a × IsSmall ys count b
 IsSmall ys count (ArrayOf a n) =
     (length_at ys n < 2 ^ 32) × (count * length_at ys n ≤ 2 ^ 32)
@@ -65,6 +77,8 @@ members_from f i (suc n) = f i ∷ members_from f (suc i) n
 -- first of which is this component's
 abbrev pub value_in : List ℕ → PlainTy → List (List ℕ) → (component number : ℕ) → Value
 value_in ys U32 lists c i = Word (get_or (row lists c) i 0)
+value_in ys U32x4 lists c i =
+    array (members_from (λ j. Word (get_or (row lists c) (i * 4 + j) 0)) 0 4)
 value_in ys (PairOf a b) lists c i =
     Both (value_in ys a lists c i) (value_in ys b lists (c + width a) i)
 value_in ys (ArrayOf a n) lists c i =

@@ -1,8 +1,8 @@
 //! The lists of a type, and where they hold the parts of a value.
 
-ghost use Rattle.std.specs.Prelude.{◌≡◌, ◌+◌, ◌*◌, ◌<◌, ◌≤◌, ◌^◌, get_or, length, map, replicate, IfOk};
-ghost use Rattle.lift_tree.specs.Types.{ty_of, HoldsElements};
-ghost use Rattle.value_lists.specs.Lists.{length_at, list_lengths, row, scalars, width, IsSmall};
+ghost use Rattle.std.specs.Prelude.{◌≡◌, ◌+◌, ◌++◌, ◌*◌, ◌<◌, ◌≤◌, ◌^◌, get_or, length, map, replicate, IfOk, OnOk};
+ghost use Rattle.lift_tree.specs.Types.{ty_of};
+ghost use Rattle.value_lists.specs.Lists.{length_at, list_lengths, row, width, IsSmall};
 
 use lift_tree::ty::Ty;
 use size_arith::{Poly, Sizes};
@@ -14,39 +14,60 @@ pub fn width(ty: &Ty) -> usize
     ensures { result ≡ width (ty_of ty.now) }
 {
     match ty {
-        Ty::Number => 1,
+        Ty::Number | Ty::Vector => 1,
         Ty::Pair(a, b) => width(a) + width(b),
         Ty::Array(element, _) => width(element),
     }
 }
 
-// So many times the scalars of a component.
-#[tactic(auto, using(crate::proofs::Small::counting))]
-fn scalars(ty: &Ty, sizes: &Sizes, count: usize) -> usize
-    requires elements { HoldsElements (ty_of ty.now) }
-    requires small { IsSmall sizes.now count (ty_of ty.now) }
-    ensures { result ≡ count * scalars sizes.now (ty_of ty.now) }
+// Adds a list of 0 for each component of so many values of the type at these sizes.
+#[tactic(auto, using(crate::proofs::Blank::added))]
+fn add_blanks(
+    alloc: Global,
+    ty: &Ty,
+    sizes: &Sizes,
+    count: usize,
+    lists: &mut Vec<Vec<u32>>,
+) -> Result<(), AllocError>
+    requires { IsSmall sizes.now count (ty_of ty.now) }
+    ensures { OnOk result (map (λ l. l.items) lists.new.items
+        ≡ map (λ l. l.items) lists.old.items
+        ++ map (λ n. replicate (count * n) 0) (list_lengths sizes.now (ty_of ty.now))) }
 {
     match ty {
-        Ty::Number | Ty::Pair(_, _) => count,
-        Ty::Array(element, length) => scalars(element, sizes, count * length_at(length, sizes)),
+        Ty::Number => {
+            lists.push(vec![in alloc; 0u32; count]?)?;
+            Ok(())
+        }
+        Ty::Vector => {
+            lists.push(vec![in alloc; 0u32; count * 4]?)?;
+            Ok(())
+        }
+        Ty::Pair(a, b) => {
+            add_blanks(alloc, a, sizes, count, lists)?;
+            add_blanks(alloc, b, sizes, count, lists)
+        }
+        Ty::Array(element, length) => {
+            add_blanks(
+                alloc,
+                element,
+                sizes,
+                count * length_at(length, sizes),
+                lists,
+            )
+        }
     }
 }
 
 /// Lists of 0 for a value of the type at these sizes, one for each component.
-#[tactic(auto, using(crate::proofs::Small::counting))]
+#[tactic(auto, using(crate::proofs::Blank::added))]
 pub fn blank_lists(alloc: Global, ty: &Ty, sizes: &Sizes) -> Result<Vec<Vec<u32>>, AllocError>
-    requires elements { HoldsElements (ty_of ty.now) }
-    requires small { IsSmall sizes.now 1 (ty_of ty.now) }
-    requires few { width (ty_of ty.now) < 2 ^ 32 }
+    requires { IsSmall sizes.now 1 (ty_of ty.now) }
     ensures { IfOk result (λ lists. map (λ l. l.items) lists.items
         ≡ map (λ n. replicate n 0) (list_lengths sizes.now (ty_of ty.now))) }
 {
-    let count = scalars(ty, sizes, 1);
     let mut lists = Vec::new(alloc);
-    for _ in 0..width(ty) {
-        lists.push(vec![in alloc; 0u32; count]?)?;
-    }
+    add_blanks(alloc, ty, sizes, 1, &mut lists)?;
     Ok(lists)
 }
 

@@ -150,6 +150,7 @@ module _ (l : Launch) (tiles : ℕ) (xs out : List ℕ) (rest : ℕ) (h : AreTil
       typed = added_typed;
       flat_type = tt;
       variables = refl;
+      vectors = refl;
       privates = refl;
       outputs = ap (λ z. z ∷ []) (h.out_long ∙ (let e : n ≡ n * 1 = omega arith in e));
       inputs = given;
@@ -349,6 +350,7 @@ module _ (l : Launch) (tiles : ℕ) (xs out : List ℕ) (rest : ℕ) (h : AreTil
       typed = sums_typed;
       flat_type = tt;
       variables = refl;
+      vectors = refl;
       privates = refl;
       outputs = ap (λ z. z ∷ []) (h.out_long ∙ (let e : m ≡ m * 1 * 1 = omega arith in e));
       inputs = given l tiles xs out rest h;

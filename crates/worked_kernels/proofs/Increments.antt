@@ -9,27 +9,28 @@ use Rattle.kernel_tree.specs.Launch.{Launch}
 use Rattle.lift_ir.specs.Types.{Ty, Scalar, ArrayOf, IsPosition}
 use Rattle.lift_ir.specs.Terms.{HasType, no_type}
 use Rattle.lift_ir.specs.Scalars.{Scalars, scalars_of, no_scalars, AreLists}
+use Rattle.printed_form.specs.Counts.{no_variables}
 use Rattle.printed_form.specs.Marks.{Marks, laid_in}
 use Rattle.printed_form.specs.Whole.{no_marks, output_marks, IsOverLaunch, IsGiven}
 use Rattle.printed_form.proofs.Whole.{every_run_keeps}
 use Rattle.worked_kernels.specs.Kernels.{turn_store, turn_body, increments_kernel, increments, increments_cells, incremented, IncrementsKeep}
 use Rattle.worked_kernels.proofs.KernelRuns.{itself}
 
-abbrev inputs_at : ℕ → ℕ → Marks
+abbrev pub inputs_at : ℕ → ℕ → Marks
 inputs_at n v = laid_in Input v (ArrayOf n Scalar)
 
-abbrev types_at : ℕ → ℕ → Ty
+abbrev pub types_at : ℕ → ℕ → Ty
 types_at n zero = ArrayOf n Scalar
 types_at n (suc v) = ArrayOf 0 Scalar
 
-abbrev values_of : List ℕ → ℕ → Scalars
+abbrev pub values_of : List ℕ → ℕ → Scalars
 values_of xs v cs [] = 0
 values_of xs v cs (i ∷ q) = slice_index xs i
 
 one_index : (i : ℕ) → i ≡ i * 1 + 0
 one_index i = omega arith
 
-written : (l : Launch) (item n : ℕ) → l.sizes ≡ n ∷ [] → IsOverLaunch l item (inputs_at n) itself no_marks 0 0 (increments n) (output_marks (ArrayOf n Scalar)) increments_kernel.code End
+written : (l : Launch) (item n : ℕ) → l.sizes ≡ n ∷ [] → IsOverLaunch l item (inputs_at n) itself no_marks 0 no_variables (increments n) (output_marks (ArrayOf n Scalar)) increments_kernel.code End
 written l item n e = (
   increments_kernel.code,
   refl,
@@ -42,7 +43,7 @@ written l item n e = (
   ),
 )
 
-given : (xs out : List ℕ) (rest v : ℕ) (cs : List Bool) (q : List ℕ) → IsPosition (types_at (length xs) v) cs q → IsGiven (increments_cells xs out rest) (inputs_at (length xs) v cs q) (values_of xs v cs q)
+pub given : (xs out : List ℕ) (rest v : ℕ) (cs : List Bool) (q : List ℕ) → IsPosition (types_at (length xs) v) cs q → IsGiven (increments_cells xs out rest) (inputs_at (length xs) v cs q) (values_of xs v cs q)
 given xs out rest zero cs [] w = absurd w
 given xs out rest zero cs (i ∷ q) w = let e : i * 1 + 0 ≡ i = omega arith in (let lt = w.0 in omega arith, ap (slice_index xs) e)
 given xs out rest (suc v) cs [] w = absurd w
@@ -60,7 +61,7 @@ all_listed xs (suc a) i lt = absurd (omega arith)
 pub one_row : (n : ℕ) (out : List ℕ) → length out ≡ n → map length (out ∷ []) ≡ n * 1 ∷ []
 one_row n out e = ap (λ k. k ∷ []) (let z : length out ≡ n * 1 = omega arith in z)
 
-first_row : (x g : ℕ) → x + 0 * g ≡ x
+pub first_row : (x g : ℕ) → x + 0 * g ≡ x
 first_row x g = omega arith
 
 -- at every launch over fewer than 2^31 elements
@@ -76,6 +77,7 @@ increments_keep l xs out rest whole flat some few sizes small room s es start r 
         typed = typed (length xs) small;
         flat_type = tt;
         variables = refl;
+        vectors = refl;
         privates = refl;
         outputs = one_row (length xs) out room;
         inputs = given xs out rest;

@@ -10,6 +10,7 @@ use Rattle.kernel_tree.proofs.Grouping.{whole_in_a_row, flat_in_a_row}
 use Rattle.lift_ir.specs.Types.{Ty, Scalar, PairOf, ArrayOf, IsPosition}
 use Rattle.lift_ir.specs.Terms.{HasType, no_type}
 use Rattle.lift_ir.specs.Scalars.{Scalars, scalars_of, no_scalars, AreLists}
+use Rattle.printed_form.specs.Counts.{no_variables}
 use Rattle.printed_form.specs.Marks.{Marks, laid_in}
 use Rattle.printed_form.specs.Form.{IsWritten}
 use Rattle.printed_form.specs.Whole.{no_marks, output_marks, IsGiven, IsPrinted}
@@ -70,7 +71,7 @@ row_index i = omega arith
 one_index : (i : ℕ) → i ≡ i * 1 + 0
 one_index i = omega arith
 
-sums_written : IsWritten one_item 0 sums_inputs itself [] no_marks 0 0 sums (output_marks (ArrayOf 1 Scalar)) sums_kernel.code End
+sums_written : IsWritten one_item 0 sums_inputs itself [] no_marks 0 no_variables sums (output_marks (ArrayOf 1 Scalar)) sums_kernel.code End
 sums_written = (
   outer,
   outer,
@@ -132,6 +133,7 @@ sums_printed rest out = record {
     typed = sums_typed;
     flat_type = tt;
     variables = refl;
+    vectors = refl;
     privates = refl;
     outputs = refl;
     inputs = sums_given rest out;
@@ -183,7 +185,7 @@ swaps_typed = (
   refl,
 )
 
-swaps_written : IsWritten one_item 0 swaps_inputs itself [] no_marks 0 0 swaps (output_marks (ArrayOf 1 (PairOf Scalar Scalar))) swaps_kernel.code End
+swaps_written : IsWritten one_item 0 swaps_inputs itself [] no_marks 0 no_variables swaps (output_marks (ArrayOf 1 (PairOf Scalar Scalar))) swaps_kernel.code End
 swaps_written = (
   swaps_kernel.code,
   swaps_kernel.code,
@@ -218,6 +220,7 @@ swaps_printed rest o p = record {
     typed = swaps_typed;
     flat_type = (tt, tt);
     variables = refl;
+    vectors = refl;
     privates = refl;
     outputs = refl;
     inputs = swaps_given rest o p;

@@ -4,6 +4,7 @@ pub mod TileRuns
 mod GroupRuns
 mod KernelRuns
 mod Increments
+mod FourIncrements
 mod RowIncrements
 mod TidyIndices
 mod LoweredTerms

@@ -1,5 +1,5 @@
--- One kernel at every launch in two dimensions: a pair of maps over it that adds 1 to each of N rows
--- of M elements.
+-- One kernel at every launch in two dimensions: a pair of maps over it that adds 1
+-- to each of N rows of M elements.
 use Rattle.std.proofs.Common.{◌≡◌, ℕ, zero, suc, ◌+◌, ◌*◌, ◌/◌, ◌%◌, ◌<◌, ◌≤◌, ◌^◌, Bool, List, [], ◌∷◌, length, Some, refl, sym, ap, ◌∙◌, subst, inr, arith}
 use Rattle.std.specs.Prelude.{slice_index, map}
 use Rattle.std.proofs.lemmas.List.{length-map, get_or-map}
@@ -11,6 +11,7 @@ use Rattle.kernel_tree.specs.Launch.{Launch, item_at}
 use Rattle.lift_ir.specs.Types.{Ty, Scalar, ArrayOf, IsPosition}
 use Rattle.lift_ir.specs.Terms.{HasType, no_type}
 use Rattle.lift_ir.specs.Scalars.{Scalars, scalars_of, no_scalars, AreLists}
+use Rattle.printed_form.specs.Counts.{no_variables}
 use Rattle.printed_form.specs.Form.{IsIndex}
 use Rattle.printed_form.specs.Marks.{Marks, laid_in}
 use Rattle.printed_form.specs.Whole.{no_marks, output_marks, IsOverLaunch, IsGiven}
@@ -50,7 +51,7 @@ is_place l item n m i j e small h lt vs =
     let low : i * m + j < 2 ^ 32 = (let in_all = within i j n m h lt in omega arith) in
     ap (λ ns. Some ((i * slice_index ns 1 % 2 ^ 32 + j) % 2 ^ 32)) e ∙ ap Some (no_wrap i j m low ∙ flat_place i j m)
 
-written : (l : Launch) (item n m : ℕ) → l.sizes ≡ n ∷ m ∷ [] → n * m < 2 ^ 31 → IsOverLaunch l item (inputs_at n m) itself no_marks 0 0 (row_increments n m) (output_marks (rows_of n m)) row_increments_kernel.code End
+written : (l : Launch) (item n m : ℕ) → l.sizes ≡ n ∷ m ∷ [] → n * m < 2 ^ 31 → IsOverLaunch l item (inputs_at n m) itself no_marks 0 no_variables (row_increments n m) (output_marks (rows_of n m)) row_increments_kernel.code End
 written l item n m e small = (
   row_increments_kernel.code,
   refl,
@@ -131,6 +132,7 @@ row_increments_keep l n m xs out rest whole some few sizes a b small long room s
         typed = typed n m a b;
         flat_type = tt;
         variables = refl;
+        vectors = refl;
         privates = refl;
         outputs = all_rows n m out room;
         inputs = given n m xs out long rest;

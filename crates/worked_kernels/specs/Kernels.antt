@@ -1,13 +1,14 @@
 -- Worked kernels.
 use Rattle.std.specs.Prelude.{◌≡◌, ℕ, ◌+◌, ◌*◌, ◌/◌, ◌%◌, ◌<◌, ◌^◌, true, false, List, [], ◌∷◌, length, map, None}
-use Rattle.scalar_ops.specs.declared.op.Op.TheVariants.{Add, Mul}
+use Rattle.scalar_ops.specs.declared.op.Op.TheVariants.{Add, Mul, Div}
 use Rattle.kernel_tree.specs.declared.tree.Dimension.TheVariants.{X, Y}
-use Rattle.kernel_tree.specs.Formula.{Formula, Number, Variable, LoopVariable, Size, Binary}
-use Rattle.kernel_tree.specs.Code.{Input, Output, Private, FromZero, ByOne, FromGlobalId, ByGlobalSize, Code, End, Performs, Assigns, Loads, Stores, Loops, Kernel}
+use Rattle.kernel_tree.specs.Formula.{Formula, Number, Variable, LoopVariable, Size, Binary, Vector, Spread}
+use Rattle.kernel_tree.specs.Formula as lanes
+use Rattle.kernel_tree.specs.Code.{Input, Output, Private, FromZero, ByOne, FromGlobalId, ByGlobalSize, Code, End, Performs, Assigns, Loads, Stores, LoadsFour, StoresFour, Loops, Kernel}
 use Rattle.kernel_tree.specs.Launch.{Launch, Cells, IsWhole, IsFlat, in_a_row, item_at, item_count}
-use Rattle.lift_ir.specs.Types.{Scalar, PairOf, ArrayOf}
+use Rattle.lift_ir.specs.Types.{Scalar, PairOf, ArrayOf, four}
 use Rattle.lift_ir.specs.Layouts.{Split, Join}
-use Rattle.lift_ir.specs.Terms.{Skip, Take, Global, GlobalRows, Sequential, PrivateMemory, Term, Literal, Bound, Source, Apply, Both, Project, Reshape, Map, Fold, Store, Copy}
+use Rattle.lift_ir.specs.Terms.{Skip, Take, TakeFour, Global, GlobalRows, Sequential, PrivateMemory, Term, Literal, Bound, Source, Apply, ApplyLanes, Both, Project, Reshape, Map, Fold, Store, Copy}
 use Rattle.printed_form.specs.Headline.{EveryRunKeeps}
 
 -- one work-item, and no sizes
@@ -198,6 +199,48 @@ IncrementsKeep =
     → length out ≡ length xs
     → EveryRunKeeps increments_kernel l (increments_cells xs out rest) (λ array i. i % l.global.0)
     (incremented xs ∷ [])
+
+-- ---- the same by vectors: a map over the launch that adds 1 to each of N vectors of four
+abbrev pub four_increments : ℕ → Term ℕ
+four_increments n =
+    Reshape (Join 4)
+    (Map Global n TakeFour (Reshape (Split 4) (Source 0))
+    (Store four (ApplyLanes Add true false (Bound 0) (Literal 1))))
+
+-- vstore4((w0 + (uint4)(1u)), i0, o0);
+abbrev pub four_store : Code
+four_store =
+    Performs
+    (StoresFour (Output 0) (LoopVariable 0) (lanes.Each Add (Vector 0) (Spread (Number 1)))) End
+
+-- w0 = vload4(i0, a0); and one more in each lane is stored
+abbrev pub four_body : Code
+four_body = Performs (LoadsFour 0 (Input 0) (LoopVariable 0)) four_store
+
+-- for (uint i0 = (uint)get_global_id(0); i0 < (s0 / 4u); i0 += (uint)get_global_size(0)) {
+-- w0 = vload4(i0, a0); vstore4((w0 + (uint4)(1u)), i0, o0); }
+abbrev pub four_increments_kernel : Kernel
+four_increments_kernel = record {
+  inputs = 1;
+  outputs = 1;
+  sizes = 1;
+  locals = [];
+  privates = [];
+  variables = 0;
+  vectors = 1;
+  local = None;
+  code = Loops (FromGlobalId X) (Binary Div (Size 0) (Number 4)) (ByGlobalSize X) four_body End;
+}
+
+-- at every launch of one row, over fewer than 2^31 elements, every run leaves the sums, each
+-- written by the work-item of its vector's index modulo G
+abbrev pub FourIncrementsKeep : Type 0
+FourIncrementsKeep =
+    (l : Launch) (n : ℕ) (xs out : List ℕ) (rest : ℕ) → IsWhole l → IsFlat l → 0 < item_count l
+    → item_count l < 2 ^ 31 → l.sizes ≡ (n * 4) ∷ [] → n * 4 < 2 ^ 31
+    → length xs ≡ n * 4 → length out ≡ n * 4
+    → EveryRunKeeps four_increments_kernel l (increments_cells xs out rest)
+    (λ array i. (i / 4) % l.global.0) (incremented xs ∷ [])
 
 -- ---- a pair of maps over the launch that adds 1 to each element of N rows of M
 abbrev pub row_increments : (n m : ℕ) → Term ℕ

@@ -1,9 +1,10 @@
 -- Worked terms.
-use Rattle.std.specs.Prelude.{◌≡◌, ℕ, ◌<◌, ◌^◌, List, [], Some, slice_get}
+use Rattle.std.specs.Prelude.{◌≡◌, ℕ, ◌<◌, ◌^◌, true, false, List, [], Some, slice_get}
 use Rattle.scalar_ops.specs.declared.op.Op.TheVariants.{Add}
 use Rattle.scalar_ops.specs.declared.op.Reducer.TheVariants as reducer
 use Rattle.size_arith.specs.declared.poly.Monomial.{Monomial}
 use Rattle.lift_tree.specs.declared.term.Operator.TheVariants as operator
+use Rattle.lift_tree.specs.declared.layout.Layout.TheVariants as layout
 use Rattle.lift_tree.specs.declared.term.UnaryForm.TheVariants as unary
 use Rattle.lift_tree.specs.declared.term.BinaryForm.TheVariants as binary
 use Rattle.lift_tree.specs.declared.term.MapKind.TheVariants as map_kind
@@ -15,8 +16,9 @@ use Rattle.lift_tree.specs.Tree.{Tree}
 use Rattle.lift_tree.specs.Types as types
 use Rattle.lift_tree.specs.Typing.{Declared, constant}
 use Rattle.lift_tree.specs.Annotations.{Annotation, Leaf, One, Two, Three, Annotates}
-use Rattle.lift_ir.specs.Types.{Scalar, ArrayOf}
-use Rattle.lift_ir.specs.Terms.{Skip, Take, PrivateMemory, Global, GlobalRows, Sequential, Literal, Bound, Source, Apply, Map, Fold, Store, Copy}
+use Rattle.lift_ir.specs.Types.{Scalar, ArrayOf, four}
+use Rattle.lift_ir.specs.Layouts.{Split, Join}
+use Rattle.lift_ir.specs.Terms.{Skip, Take, TakeFour, PrivateMemory, Global, GlobalRows, Sequential, Literal, Bound, Source, Apply, ApplyLanes, Reshape, Map, Fold, Store, Copy}
 use Rattle.lift_ir.specs.AtLaunch.{length_at}
 use Rattle.lift_ir.specs.Lowering.{Written, Lowered, lower}
 use Rattle.lift_ir.specs.Lowerable.{IsLowerable, IsStaged}
@@ -53,6 +55,31 @@ IncrementsAreLowered =
     → slice_get d.inputs 0 ≡ Some (types.ArrayOf types.U32 n) → length_at bases n < 2 ^ 31
     → IsLoweredTo d bases increments (increments_types n)
     (Map Global n Take (Source 0) (Store Scalar (Apply Add (Bound 0) (Literal 1))))
+
+-- asScalar(mapGlb(\x. x + 1, asVector(4, A))), of 8 elements
+abbrev pub four_increments : Tree
+four_increments =
+    tree.Unary (unary.Layout layout.AsScalar)
+    (tree.Map (map_kind.Over Launch X) (tree.Unary (unary.Layout layout.AsVector) (tree.Input 0))
+    (sum (tree.Variable 0) (tree.Number 1)))
+
+-- the types of its nodes: two vectors of four
+abbrev pub four_increments_types : Annotation
+four_increments_types =
+    let vectors = types.ArrayOf types.U32x4 (constant 2) in
+    One (types.ArrayOf types.U32 (constant 8))
+    (Two vectors (One vectors (Leaf (types.ArrayOf types.U32 (constant 8))))
+    (Two types.U32x4 (Leaf types.U32x4) scalar))
+
+-- it is lowered to a map that adds 1 to each lane of each row of four
+abbrev pub FourIncrementsAreLowered : Type 0
+FourIncrementsAreLowered =
+    (d : Declared) (bases : List ℕ)
+    → slice_get d.inputs 0 ≡ Some (types.ArrayOf types.U32 (constant 8))
+    → IsLoweredTo d bases four_increments four_increments_types
+    (Reshape (Join (constant 4))
+    (Map Global (constant 2) TakeFour (Reshape (Split (constant 4)) (Source 0))
+    (Store four (ApplyLanes Add true false (Bound 0) (Literal 1)))))
 
 -- mapGlb1(\r. mapGlb(\x. x + 1, r), A)
 abbrev pub row_increments : Tree

@@ -15,6 +15,7 @@ use Rattle.barrier_placement.specs.Separates.{Separates}
 use Rattle.lift_ir.specs.Types.{Scalar, ArrayOf}
 use Rattle.lift_ir.specs.Terms.{Skip, Take, Literal, Bound, Apply, Store, no_type}
 use Rattle.lift_ir.specs.Scalars.{no_scalars}
+use Rattle.printed_form.specs.Counts.{more, no_variables, one_word}
 use Rattle.printed_form.specs.Headline.{EveryRunKeeps}
 use Rattle.printed_form.specs.MapForms.{Looped}
 use Rattle.printed_form.specs.Marks.{Spot}
@@ -171,7 +172,7 @@ tile_phases zero = record {
   element = Scalar;
   result = Scalar;
   types = no_type;
-  variables = 0;
+  variables = no_variables;
   privates = 0;
   locals = 0;
 }
@@ -183,7 +184,7 @@ tile_phases (suc q) = record {
   element = Scalar;
   result = Scalar;
   types = no_type;
-  variables = 1;
+  variables = one_word;
   privates = 0;
   locals = 1;
 }
@@ -221,7 +222,7 @@ tile_list l neighbour tiles xs = record {
   once = false;
   turns = tiles;
   count = 2;
-  variables = 2;
+  variables = more one_word one_word;
   ins = no_marks;
   src = no_type;
   sources = no_scalars;

@@ -7,6 +7,7 @@ use Rattle.printed_form.specs.MapForms.{form_over_groups}
 use Rattle.lowering.specs.Terms.{kind_of, load_set_of, map_of, term_of}
 use Rattle.group_phases.specs.Strides.{statement_of}
 use Rattle.group_form.specs.GridPrinter.{print_along_groups}
+use Rattle.array_views.specs.Counts.{count_of}
 use Rattle.array_views.specs.Views.{view_in}
 use Rattle.item_emit.specs.Blocks.{code_in}
 use Rattle.item_emit.specs.Scopes.{scope_of}
@@ -23,9 +24,9 @@ returns c =
     let r = c.args.row.now in
     IfOk-weaker c.statement_over_groups.result
     (λ (b : Block). code_in b ≡ statement_of (form_over_groups c.is_over_one-once.result) (FromGroupId X) (ByGroupCount X) (formula_of c.in_ok-length.length) (code_in c.in_ok-turn.turn))
-    (λ (b : Block). code_in b ≡ print_along_groups (spell_of s) (grid_forms_in s) (inputs_of s) (fence_in s) r.depth (scope_of r.scope.now) r.variable (map_of m) (view_in c.args.target.now))
+    (λ (b : Block). code_in b ≡ print_along_groups (spell_of s) (grid_forms_in s) (inputs_of s) (fence_in s) r.depth (scope_of r.scope.now) (count_of r.variable) (map_of m) (view_in c.args.target.now))
     (λ b h. h ∙ over_row (spell_of s) (grid_forms_in s) (inputs_of s) (fence_in s) (scope_of r.scope.now)
-    (kind_of m.kind) m.length (load_set_of m.loads) (term_of m.array) (term_of m.body) (view_in c.args.target.now) r.depth r.variable
+    (kind_of m.kind) m.length (load_set_of m.loads) (term_of m.array) (term_of m.body) (view_in c.args.target.now) r.depth (count_of r.variable)
     _ _ _ _ _ _ _ _ c.is_over_one-once.ensures c.turn_over_groups-turn.ensures c.in_ok-array.ensures c.in_ok-element.ensures c.in_ok-target.ensures
     c.in_ok-depth_over_groups.ensures c.in_ok-turn.ensures c.in_ok-length.ensures)
     c.statement_over_groups.ensures

@@ -10,4 +10,4 @@ pub returns : goal.returns
 returns c =
     let s = c.args.setting.now in
     let m = c.args.map.now in
-    row_turn (spell_of s) (grid_forms_in s) (inputs_of s) (fence_in s) c.args.depth (scope_of c.args.scope.now) (load_set_of m.loads) (view_in c.args.element.now) (term_of m.body) (view_in c.args.target.now) _ _ _ _ c.in_ok-bound.ensures c.in_ok-load_count.ensures c.in_ok-turn.ensures c.in_ok-put_loaded.ensures
+    row_turn (spell_of s) (grid_forms_in s) (inputs_of s) (fence_in s) c.args.depth (scope_of c.args.scope.now) (load_set_of m.loads) (view_in c.args.element.now) (term_of m.body) (view_in c.args.target.now) _ _ _ _ _ _ c.none.ensures c.none-2.ensures c.in_ok-bound.ensures c.in_ok-load_count.ensures c.in_ok-turn.ensures c.in_ok-put_loaded.ensures

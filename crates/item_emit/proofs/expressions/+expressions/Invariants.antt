@@ -9,6 +9,12 @@ decreases-applied l = 2 * (nodes (term_of l.a.now) + nodes (term_of l.b.now)) + 
 abbrev pub decreases-divided : goal.decreases-divided
 decreases-divided l = 2 * nodes (term_of l.a.now) + 1
 
+abbrev pub decreases-laned : goal.decreases-laned
+decreases-laned l = 2 * (nodes (term_of l.a.now) + nodes (term_of l.b.now)) + 1
+
+abbrev pub decreases-divided_lanes : goal.decreases-divided_lanes
+decreases-divided_lanes l = 2 * nodes (term_of l.a.now) + 1
+
 abbrev pub decreases-selected : goal.decreases-selected
 decreases-selected l = 2 * (nodes (term_of l.condition.now) + nodes (term_of l.yes.now) + nodes (term_of l.no.now)) + 1
 

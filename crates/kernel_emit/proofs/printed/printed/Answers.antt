@@ -11,7 +11,7 @@ invariant_of-result c =
     let locals = c.in_ok-locals.ensures ∙ c.deref.ensures.value in
     let privates = c.in_ok-privates.ensures ∙ c.deref-2.ensures.value in
     record {
-      in_grammar = ap is_kernel (kernel_is (printed_for plan) _ _ _ _ _ _ _ _ counts.inputs counts.outputs counts.sizes locals privates counts.variables c.in_ok-body.ensures refl refl) ∙ c.requires.grammar;
+      in_grammar = ap is_kernel (kernel_is (printed_for plan) _ _ _ _ _ _ _ _ _ counts.inputs counts.outputs counts.sizes locals privates counts.variables c.in_ok-body.ensures counts.vectors refl) ∙ c.requires.grammar;
       few_arrays = (subst (λ (xs : List ℕ). length xs < 2 ^ 32) (sym locals) c.requires.locals, subst (λ (xs : List ℕ). length xs < 2 ^ 32) (sym privates) c.requires.privates);
     }
 
@@ -21,4 +21,4 @@ returns c =
     let counts = c.in_ok-counts.ensures in
     let locals = c.in_ok-locals.ensures ∙ c.deref.ensures.value in
     let privates = c.in_ok-privates.ensures ∙ c.deref-2.ensures.value in
-    kernel_is (printed_for plan) _ _ _ _ _ _ _ _ counts.inputs counts.outputs counts.sizes locals privates counts.variables c.in_ok-body.ensures refl refl
+    kernel_is (printed_for plan) _ _ _ _ _ _ _ _ _ counts.inputs counts.outputs counts.sizes locals privates counts.variables c.in_ok-body.ensures counts.vectors refl

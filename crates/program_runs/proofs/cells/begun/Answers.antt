@@ -1,5 +1,4 @@
 use Rattle.std.proofs.Common.{◌∙◌, List, ap, map}
-use Rattle.std.proofs.Props.{props}
 use Rattle.std.proofs.Math.Logic.{∥∥₁_elim}
 use Rattle.launch_file.specs.LaunchFile.{given_by}
 use Rattle.lift_tree.specs.Launches.{buffers_of}
@@ -8,23 +7,13 @@ use Rattle.lift_tree.specs.Types.{ty_of}
 use Rattle.lift_tree.specs.Typing.{declared_by}
 use Rattle.lift_tree.specs.Values.{value_of}
 use Rattle.lift_tree.specs.declared.value.Val.{Val}
-use Rattle.program_runs.proofs.LaidOut.{elements_once, small_once}
+use Rattle.program_runs.proofs.LaidOut.{small_once}
 use Rattle.program_runs.proofs.cells.begun.Goals as goal
 
-pub blank_lists-requires-clause-elements : goal.blank_lists-requires-clause-elements
-blank_lists-requires-clause-elements c =
-    let compiled = c.args.compiled.now in
-    ∥∥₁_elim compiled.text_for (elements_once (ty_of compiled.output)) (λ t. t.laid_out.elements)
-
-pub blank_lists-requires-clause-small : goal.blank_lists-requires-clause-small
-blank_lists-requires-clause-small c =
+pub blank_lists-requires : goal.blank_lists-requires
+blank_lists-requires c =
     let compiled = c.args.compiled.now in
     ∥∥₁_elim compiled.text_for (small_once _ 1 (ty_of compiled.output)) (λ t. t.laid_out.small (given_by c.args.file.now).bases c.requires.launch.sizes)
-
-pub blank_lists-requires-clause-few : goal.blank_lists-requires-clause-few
-blank_lists-requires-clause-few c =
-    let compiled = c.args.compiled.now in
-    ∥∥₁_elim compiled.text_for (Prim.hlevel props) (λ t. t.laid_out.few)
 
 pub returns : goal.returns
 returns c =

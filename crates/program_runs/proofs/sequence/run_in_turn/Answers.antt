@@ -37,29 +37,13 @@ index-requires c =
     let len = c.args.compiled.now.outlines.ok.0 in
     omega (arith, within, len)
 
-pub begun_from-requires-clause-elements : goal.begun_from-requires-clause-elements
-begun_from-requires-clause-elements c =
-    let at = c.loop-number in
-    let all = c.args.kernels.items in
-    let road = YieldsList-from_enumerate {s = c.into_iter-number-iterator.result} (YieldsList-from_vec {s = c.into_iter-number-iterator.result.iter} all (search rules) (search rules)) (search rules) in
-    let turn = YieldsList-turn road at.yielded at.number-iterator at.yielded_by c.next.result c.next.new.self (c.in-Some.number, c.in-Some.kernel) c.in-Some.is c.next.ensures.steps in
-    (next_kernel _ _ _ _ _ _ _ (map (λ (l : Vec ℕ Global). l.items) c.args.inputs.items) c.texts_are_of_one_sequence.ensures c.requires.read c.requires.admissible c.args.compiled.now.text_for (length at.yielded) c.in-Some.number c.in-Some.kernel turn.0 turn.1 c.index.result.now c.index.ensures _ _ _ _ at.invariant).elements
-
-pub begun_from-requires-clause-small : goal.begun_from-requires-clause-small
-begun_from-requires-clause-small c =
+pub begun_from-requires : goal.begun_from-requires
+begun_from-requires c =
     let at = c.loop-number in
     let all = c.args.kernels.items in
     let road = YieldsList-from_enumerate {s = c.into_iter-number-iterator.result} (YieldsList-from_vec {s = c.into_iter-number-iterator.result.iter} all (search rules) (search rules)) (search rules) in
     let turn = YieldsList-turn road at.yielded at.number-iterator at.yielded_by c.next.result c.next.new.self (c.in-Some.number, c.in-Some.kernel) c.in-Some.is c.next.ensures.steps in
     (next_kernel _ _ _ _ _ _ _ (map (λ (l : Vec ℕ Global). l.items) c.args.inputs.items) c.texts_are_of_one_sequence.ensures c.requires.read c.requires.admissible c.args.compiled.now.text_for (length at.yielded) c.in-Some.number c.in-Some.kernel turn.0 turn.1 c.index.result.now c.index.ensures _ _ _ _ at.invariant).small
-
-pub begun_from-requires-clause-few : goal.begun_from-requires-clause-few
-begun_from-requires-clause-few c =
-    let at = c.loop-number in
-    let all = c.args.kernels.items in
-    let road = YieldsList-from_enumerate {s = c.into_iter-number-iterator.result} (YieldsList-from_vec {s = c.into_iter-number-iterator.result.iter} all (search rules) (search rules)) (search rules) in
-    let turn = YieldsList-turn road at.yielded at.number-iterator at.yielded_by c.next.result c.next.new.self (c.in-Some.number, c.in-Some.kernel) c.in-Some.is c.next.ensures.steps in
-    (next_kernel _ _ _ _ _ _ _ (map (λ (l : Vec ℕ Global). l.items) c.args.inputs.items) c.texts_are_of_one_sequence.ensures c.requires.read c.requires.admissible c.args.compiled.now.text_for (length at.yielded) c.in-Some.number c.in-Some.kernel turn.0 turn.1 c.index.result.now c.index.ensures _ _ _ _ at.invariant).few
 
 pub run_kernel-requires-clause-may_start : goal.run_kernel-requires-clause-may_start
 run_kernel-requires-clause-may_start c =

@@ -1,5 +1,6 @@
 use Rattle.worked_kernels.proofs.KernelRuns.{sums_keep, swaps_keep}
 use Rattle.worked_kernels.proofs.Increments.{increments_keep}
+use Rattle.worked_kernels.proofs.FourIncrements.{four_increments_keep}
 use Rattle.worked_kernels.proofs.RowIncrements.{row_increments_keep}
 use Rattle.worked_kernels.proofs.kernels.worked_kernels_keep.Goals as goal
 
@@ -14,3 +15,6 @@ returns-clause-increments c = increments_keep
 
 pub returns-clause-rows : goal.returns-clause-rows
 returns-clause-rows c = row_increments_keep
+
+pub returns-clause-fours : goal.returns-clause-fours
+returns-clause-fours c = four_increments_keep
