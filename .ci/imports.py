@@ -13,6 +13,7 @@ FREE = {
     "lift_tree",
     "printed_form",
     "readings",
+    "rewriting",
     "scalar_ops",
     "size_arith",
     "stages",

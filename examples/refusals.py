@@ -53,6 +53,17 @@ TWO = [{"global": 2, "local": 1}, {"global": 2, "local": 1}]
 TWICE = "input xs: [u32; 8]; output map(\\x. add(x, 1), map(\\x. mul(x, 2), xs))"
 UNDER = "input xs: [u32; 2]; output let y = map(\\x. x, xs) in map(\\z. fold(\\a b. add(a, b), z, y), xs)"
 
+# each row less its least number, which one item of a group makes for all
+LEAST = (
+    "size R from 1 to 9; input a: [[u32; 8]; R]; output map(\\row. "
+    "let least = join(map(\\all. reduce(min, 9, all), split(8, row))) in "
+    "map(\\p. sub(first(p), second(p)), zip(row, pad(0, 7, least))), a)"
+)
+LEAST_FIRST = (
+    "launch local 8\nat 1.0.0.1 reduce-fold\nat 1.0.0.1 fold-seq\nat 1.0.0 to-lcl\n"
+    "at 1.0.0 local\nat 1.1 to-lcl\nat . to-wrg"
+)
+
 # an array that two later kernels read, and the cuts of both, of which one stands in a let's body
 READ_TWICE = (
     "input xs: [u32; 2]; output let s = map(\\x. mul(x, x), xs) in let t = map(\\x. add(x, 1), s) in"
@@ -214,10 +225,12 @@ MENDED = [
     ("N3", NESTED, "at . to-glb\nat 1 to-seq"),
     ("N3", NESTED, "at . to-wrg\nat 1 to-lcl"),
     ("N5", MULTIPLE, LOCAL_COPY.format(4)),
+    ("N5", LEAST, LEAST_FIRST),
     ("N6", "size N from 1 to 64; input xs: [u32; 64*N]; output join(map(\\r. map(\\x. x, r), split(64, xs)))", "at 0.1.0 local-copy\nat 0.1 to-lcl\nat 0 to-wrg"),
     ("N7", ADDED, "at 0 copy\nat . fuse-map\nat . to-seq"),
     ("N7", ADDED.replace("u32; N", "u32; 9"), "at 0 copy\nat 0 to-seq\nat 0 private\nat . to-seq"),
     ("N7", ARRAY + "map(\\x. let ys = xs in x, xs)", "at 1 let-inline\nat . to-seq"),
+    ("N7", ADDED, CUT + "at . to-glb"),
     ("N8", MULTIPLE, "at . split-map 4\nat 0.1.0 private-copy\nat 0.1 to-seq\nat 0 to-glb"),
     ("N9", NESTED, "at . to-glb\nat 1 to-seq"),
     ("N10", "input xs: [u32; 5]; output slide(3, 1, xs)", "at . copy\nat 1 copy\nat 1 to-seq\nat . to-seq"),
@@ -234,6 +247,7 @@ MENDED = [
     ("N14", NESTED, PAIR),
     ("N14", CUBE, "at 1.1 to-seq\nat 1 to-glb\nat . to-glb1"),
     ("N15", TWICE, "at 0 vector\nat . vector\nat 0.0 vector-scalar\nat 0 fuse-map\nat 0 to-seq"),
+    ("N15", "input xs: [[u32; 4]; 4]; output map(\\r. map(\\x. x, r), transpose(xs))", "at 1 vector\nat 1.0.0.0 local-copy\nat 1.0 to-lcl\nat . to-wrg"),
     ("side divides", "size F from 1 to 9; input xs: [u32; 4*F]; output map(\\x. add(x, 1), xs)", "at . vector"),
     ("side lanes", "input xs: [u32; 8]; output map(\\x. min(x, 1), xs)", "at . vector"),
     ("components", FOUR + "map(\\x. map(\\y. add(first(x), y), ys), xs)", None),

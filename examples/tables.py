@@ -10,7 +10,8 @@
 - STRATEGIES, 'What a strategy saves': the loads, stores and releases of a run's trace.
 - NUMPY: each term's value behind the page's declarations is that of numpy's expression, modulo
   2^32. Where no Python here has numpy, that is told, and these rows aren't run.
-- OPENCL: the kernel of each term along its script has the words that the row says.
+- OPENCL: the kernel of each term along its script, or the kernels where a step is `then`, have the
+  words that the row says.
 """
 import json
 import os
@@ -271,7 +272,8 @@ def opencl_otherwise(lift):
     for _, term, script, wanted in sum(tables(text, "| By hand |"), []):
         if not script:
             continue
-        kernel, line = lift.called("compile", f"{head} {code(term)[0]}", "\n".join(code(script)))
+        command = "stages" if "then" in script else "compile"
+        kernel, line = lift.called(command, f"{head} {code(term)[0]}", "\n".join(code(script)))
         absent = [it for it in code(wanted) if it not in kernel]
         if absent:
             yield f"OPENCL: {code(term)[0]}: no {absent} in {kernel or line}"

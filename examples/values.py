@@ -103,6 +103,15 @@ def most_above(xs):
     return [word(max(it) - x * x) for x, it in zip(xs, near)]
 
 
+def least_near(a):
+    """The least of each cell and its eight neighbours, the borders repeated."""
+    near = (-1, 0, 1)
+    return [
+        [min(at(at(a, n + j), m + k) for j in near for k in near) for m in range(len(row))]
+        for n, row in enumerate(a)
+    ]
+
+
 def rows_then_columns(a, weights):
     rows = [blurred(row, weights) for row in a]
     return columns([blurred(column, weights) for column in columns(rows)])
@@ -147,6 +156,7 @@ VALUES = {
     "framed": framed_squares,
     "histogram": lambda xs, bins: [[part.count(bin) for bin in bins] for part in parts(xs, 64)],
     "increment": lambda xs: [word(x + 1) for x in xs],
+    "least_of_nine": least_near,
     "matrix_product": product,
     "matrix_product_block": products_in_blocks,
     "matrix_product_short": product,

@@ -162,6 +162,7 @@ def completion_faults() -> Faults:
         "./lift compile pro": "program.lift",
         "./lift run program.lift i": "item.txt items.txt",
         "./lift run program.lift item.txt m": "many.json",
+        "./lift cost program.lift item.txt many.json --i": "--items",
         "tools/places.py --a": "--all",
     }
     for typed, want in wanted.items():

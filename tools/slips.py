@@ -1,5 +1,6 @@
 """What newcomers write for what the pattern language has, by the token at which `lift` stops."""
 import difflib
+import re
 
 from grammar import FORMS, LOWERED, RESERVED, Reader, Stopped
 
@@ -35,11 +36,18 @@ TYPES = "numbers are `u32` alone: words of 32 bits"
 LARGE = "a number has no leading zero, and is at most 4294967295"
 QUOTIENT = "no length is a quotient: `size N multiple 4 ..`, or a size that counts pieces"
 DIVISOR = "no term divides by another term: the divisor is a number in the text"
+RAW = (
+    "a text in Python begins with r, as r\"output ..\": "
+    "else `\\` and the letter behind it are one byte"
+)
 WORDS = {
     **dict.fromkeys("f32 float double half int uint i32 i64 u64 u8 u16 bool".split(), TYPES),
     "if": MARKS["?"],
     "then": MARKS["?"],
     "not": MARKS["!"],
+    "plus": MARKS["+"],
+    "minus": MARKS["-"],
+    "times": MARKS["*"],
     "sum": "a sum is `reduce(add, 0, array)`, an array of one",
     "prod": "a product is `reduce(mul, 1, array)`, an array of one",
     "product": "a product is `reduce(mul, 1, array)`, an array of one",
@@ -88,6 +96,8 @@ def by_place(token: str, stop: Stopped) -> str:
         (token.isdigit() and stop.token.value is None, LARGE),
         (token == "." and before.isdigit(), TYPES),
         (token == "_", "a name begins with a letter"),
+        (stop.wanted == "`\\`" and is_escaped(stop), RAW),
+        (stop.wanted == "`.`" and token == ":", MARKS["->"]),
         (stop.wanted == "`\\`", "a function is written where it is used: `\\x. body`"),
         (operator and stop.wanted.startswith("an operator"), f"`{token}` is `{operator}` here"),
         (token == "," and "element" in stop.wanted, "no comma stands between a fold's two names"),
@@ -99,10 +109,20 @@ def by_place(token: str, stop: Stopped) -> str:
         ),
         (token in FORMS and "`output`" in stop.wanted, "the term stands behind `output`"),
         (token == ")" and "end" in stop.wanted, "here is one `)` more than there are `(`"),
+        (
+            stop.wanted == "`;`" and token in ("size", "input", "output"),
+            "a declaration ends with `;`",
+        ),
         (token == "size", "sizes are declared before inputs"),
         (token == "input", "inputs are declared before the output"),
     ]
     return next((told for holds, told in cases if holds), "")
+
+
+def is_escaped(stop: Stopped) -> bool:
+    """Whether `\\` and a letter stand there as one byte: a text in Python that isn't raw."""
+    before = stop.reader.text[: stop.token.offset]
+    return stop.token.text in [*"\a\b\f\v"] or bool(re.search(r"\([\n\r\t]$", before))
 
 
 def marked(token: str, text: str) -> str:

@@ -30,6 +30,7 @@ COMMANDS = {
     "compile": ["PROGRAM", "SCRIPT"],
     "steps": ["PROGRAM", "SCRIPT"],
     "run": ["PROGRAM", "SCRIPT", "LAUNCH", "[--trace]"],
+    "cost": ["PROGRAM", "SCRIPT", "LAUNCH", "[--items]"],
     "eval": ["PROGRAM", "LAUNCH"],
     "stages": ["PROGRAM", "SCRIPT"],
     "run-stages": ["PROGRAM", "SCRIPT", "LAUNCH"],

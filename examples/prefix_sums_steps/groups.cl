@@ -19,7 +19,7 @@ __kernel __attribute__((reqd_work_group_size(17, 1, 1))) void lift(__global cons
   uint v11;
   for (uint i0 = (uint)get_group_id(0); i0 < s0; i0 += (uint)get_num_groups(0)) {
     v0 = a1[(uint)get_local_id(0)];
-    v1 = a0[((i0 * 16u) + min((max((uint)get_local_id(0), 1u) - 1u), 15u))];
+    v1 = a0[((i0 * 16u) + (max((uint)get_local_id(0), 1u) - 1u))];
     l0[(uint)get_local_id(0)] = ((v0 == 0u ? 1u : 0u) == 0u ? v1 : 0u);
     barrier(CLK_LOCAL_MEM_FENCE);
     v2 = 0u;

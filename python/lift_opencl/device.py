@@ -1,6 +1,8 @@
 """An OpenCL device, by pyopencl."""
 from __future__ import annotations
 
+import re
+import warnings
 from functools import lru_cache
 from typing import Sequence
 
@@ -11,6 +13,9 @@ from .kernels import Kernel, Size, pair
 
 # stands in an output before a kernel runs: where it is left, most likely nobody wrote the cell
 UNWRITTEN = 0xDEADBEEF
+# a loop over the items of a group with the bound 1
+ONE_TURN = re.compile(r"= \(uint\)get_local_id\(\d\); \w+ < 1u;")
+POCL = "Portable Computing Language"
 PROPERTIES = pyopencl.command_queue_properties
 
 
@@ -33,6 +38,8 @@ class Device:
         if queue.properties & PROPERTIES.OUT_OF_ORDER_EXEC_MODE_ENABLE:
             raise ValueError("the queue is out of order, and kernels run one after another")
         self.queue = queue
+        if queue.device.platform.name == POCL:
+            warn_of_one_turn(kernels)
         program = pyopencl.Program(queue.context, text).build()
         self.kernels = [pyopencl.Kernel(program, it.name) for it in kernels]
 
@@ -72,3 +79,18 @@ class Device:
     def seconds(self, event: pyopencl.Event) -> float:
         """How long the device took for a kernel that has ended, by its own clock."""
         return (event.profile.end - event.profile.start) * 1e-9
+
+
+def warn_of_one_turn(kernels: Sequence[Kernel]) -> None:
+    """RuntimeWarning where PoCL 3.1 may run a kernel wrongly, or its compiler may stop."""
+    for kernel in kernels:
+        if "barrier(" in kernel.text and ONE_TURN.search(kernel.text):
+            warnings.warn(
+                f"{kernel.name} has barriers, and a loop over a group's items with the bound 1: "
+                "PoCL 3.1 may leave its body out, or stop. "
+                "With `launch local K` before the script's steps there is no such loop "
+                "(docs/HOST.md)",
+                RuntimeWarning,
+                # that of a call of the function, behind run, _opened and the device
+                stacklevel=6,
+            )

@@ -11,6 +11,7 @@ from typing import Any, Iterator, Mapping, Sequence, Union
 from .array_types import element, given, shape
 from .arrays import Value, Words, components_of, nested
 from .command import LiftError, lift
+from .explained import explained
 from .kernels import Kernel, Size, kernels
 from .program import declarations, last_term, of_one_kernel
 from .refusals import where
@@ -191,8 +192,9 @@ class Function:
         except LiftError as error:
             if error.status in (None, NOT_READ):
                 raise
-            spot = where(error.line, *map(text_of, self._files))
-            raise LiftError(error.line, error.status, spot) from None
+            texts = [text_of(it) for it in self._files]
+            about = explained(error.line, command, *texts, lift=self._lift)
+            raise LiftError(error.line, error.status, about or where(error.line, *texts)) from None
 
     def _components(self, inputs: Mapping[str, Any]) -> dict[str, list[Words]]:
         """The arrays of each input's components."""

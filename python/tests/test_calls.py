@@ -1,10 +1,11 @@
 """What is given to a function: arrays, sizes, work-items."""
 import unittest
+import warnings
 
 import numpy
 import pyopencl
 from lift_opencl import Function
-from lift_opencl.device import first_queue
+from lift_opencl.device import POCL, first_queue
 
 ADD = r"""
 size N multiple 2 from 2 to 100;
@@ -187,6 +188,31 @@ class WorkItems(unittest.TestCase):
         self.assertEqual(kernel.work_items({"N": 100}, 256, local_size=5), (100, 5))
         self.assertEqual(kernel.work_items({"N": 10**6}, 256), (65536, 64))
         self.assertEqual(kernel.work_items({"N": 10**6}, 256, local_size=100), (65500, 100))
+
+    def test_one_turn(self) -> None:
+        """What PoCL gets wrong by larger groups is warned of, and not where the size is fixed."""
+        text = r"""
+            size R from 1 to 9; input a: [[u32; 8]; R];
+            output map(\row.
+              let least = join(map(\all. reduce(min, 9, all), split(8, row))) in
+              map(\p. sub(first(p), second(p)), zip(row, pad(0, 7, least))), a)"""
+        script = """
+            at 1.0.0.1 reduce-fold
+            at 1.0.0.1 fold-seq
+            at 1.0.0 to-lcl
+            at 1.0.0 local
+            at 1.1 to-lcl
+            at . to-wrg"""
+        a = numpy.arange(8 * 3).reshape(3, 8) % 7
+        with warnings.catch_warnings():
+            warnings.simplefilter("error")
+            value = Function.from_text(text, "launch local 8" + script)(a)
+            numpy.testing.assert_array_equal(value, a - a.min(axis=1, keepdims=True))
+        function = Function.from_text(text, script)
+        if function.queue.device.platform.name == POCL:
+            with self.assertWarnsRegex(RuntimeWarning, "lift has barriers, and a loop") as caught:
+                function(a, local_size=2)
+            self.assertEqual(caught.filename, __file__)
 
     def test_fixed_local_size(self) -> None:
         kernel = add("launch local 7\n" + ITEMS).kernels[0]

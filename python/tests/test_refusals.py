@@ -7,46 +7,102 @@ import unittest
 from pathlib import Path
 from unittest import mock
 
-from lift_opencl import Function, LiftError
+from lift_opencl import Function, LiftError, explained
 from lift_opencl.command import found_lift, lift
 
 from .examples import REPOSITORY
 
 PLUS = r"size N from 1 to 1000; input xs: [u32; N]; output map(\x. add(x, 1), xs)"
-# a program, a script, the line, the status, and the text of the spot where there is one
+# a program, a script, the line, the status, the spot where there is one, and what is wanted
 REFUSED = [
-    ("output map(", "", "lift: program: token 4, byte 11", 6, "output map(\n             ^"),
+    (
+        "output map(",
+        "",
+        "lift: program: token 4, byte 11",
+        6,
+        "output map(\n             ^",
+        "`\\`",
+    ),
     (
         "# map\noutput ys",
         "",
         "lift: program: token 2, byte 13",
         6,
         "line 2:\n  output ys\n         ^",
+        "a declared name",
     ),
-    (PLUS.replace("x, 1", "xs, 1"), "", "lift: type: operator at 1", 7, ""),
-    (PLUS, "at . to-seq\nat . to-sequence", "lift: script: line 2", 8, "at . to-sequence"),
+    (
+        PLUS.replace("\\x", "\a"),
+        "",
+        "lift: program: token 20, byte 54",
+        6,
+        PLUS.replace("\\x", "\a"),
+        "begins with r",
+    ),
+    (
+        PLUS.replace("x, 1", "xs, 1"),
+        "",
+        "lift: type: operator at 1",
+        7,
+        "",
+        "operands are numbers",
+    ),
+    (
+        PLUS,
+        "at . to-seq\nat . to-sequence",
+        "lift: script: line 2",
+        8,
+        "at . to-sequence",
+        "near it: to-seq",
+    ),
     (
         PLUS,
         "# one\n\nat . copy\n at . join-split",
         "lift: step 2: shape",
         9,
         "line 4:\n  at . join-split",
+        "`join-split` is for `join",
     ),
-    (PLUS, "launch local 4\nat 7 copy", "lift: step 1: no place", 9, "line 2:\n  at 7 copy"),
-    (PLUS, "", "lift: nest: N1 at .", 11, ""),
+    (
+        PLUS,
+        "launch local 4\nat 7 copy",
+        "lift: step 1: no place",
+        9,
+        "line 2:\n  at 7 copy",
+        "a place of this term",
+    ),
+    (PLUS, "", "lift: nest: N1 at .", 11, "", "plain `map` stands at: ."),
 ]
+
+
+def refused(program: str, script: str) -> LiftError:
+    """The error that comes of two texts."""
+    try:
+        Function.from_text(program, script)
+    except LiftError as error:
+        return error
+    raise AssertionError("it isn't refused")
 
 
 class Refusals(unittest.TestCase):
     def test_lines(self) -> None:
-        for program, script, line, status, spot in REFUSED:
+        for program, script, line, status, _, wanted in REFUSED:
             with self.subTest(line):
-                with self.assertRaises(LiftError) as caught:
-                    Function.from_text(program, script)
-                error = caught.exception
+                error = refused(program, script)
                 self.assertEqual((error.line, error.status), (line, status))
                 self.assertIn(f"{line} (status {status}; docs/REFUSALS.md)", str(error))
-                self.assertIn(spot, str(error))
+                self.assertIn(wanted, str(error))
+                self.assertIn("do:", str(error))
+
+    def test_spots(self) -> None:
+        """What is shown where the repository's tools aren't there."""
+        with mock.patch.object(explained, "tools", return_value=iter(())):
+            for program, script, line, status, spot, _ in REFUSED:
+                with self.subTest(line):
+                    told, *about = str(refused(program, script)).split("\n", 1)
+                    self.assertEqual(told, f"{line} (status {status}; docs/REFUSALS.md)")
+                    self.assertEqual(bool(about), bool(spot))
+                    self.assertIn(spot, "".join(about))
 
     def test_no_file(self) -> None:
         with self.assertRaises(LiftError) as caught:
@@ -67,9 +123,8 @@ class Refusals(unittest.TestCase):
     def test_long_line(self) -> None:
         """Of a long line some characters around the spot are shown."""
         program = PLUS.replace("x, 1", "add(x, " * 100 + "1 " + ")" * 100)
-        with self.assertRaises(LiftError) as caught:
-            Function.from_text(program, "")
-        _, _, text, mark = str(caught.exception).split("\n")
+        with mock.patch.object(explained, "tools", return_value=iter(())):
+            _, _, text, mark = str(refused(program, "")).split("\n")
         self.assertEqual(text[len(mark) - 1 :].rstrip(")"), "), xs")
         self.assertLess(len(text), 100)
 

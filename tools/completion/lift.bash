@@ -13,15 +13,16 @@ _lift() {
   local word=${COMP_WORDS[COMP_CWORD]} command=${COMP_WORDS[1]} at=$COMP_CWORD
   # why.py has the words of lift behind its own name
   if [ "$at" = 1 ]; then
-    COMPREPLY=($(compgen -W 'compile steps run eval stages run-stages demo' -- "$word"))
+    COMPREPLY=($(compgen -W 'compile steps run cost eval stages run-stages demo' -- "$word"))
     return
   fi
   case $command:$at in
     demo:*) ;;
     *:2) _lift_files lift "$word" ;;
-    eval:3 | run:4 | run-stages:4) _lift_files json "$word" ;;
-    compile:3 | steps:3 | stages:3 | run:3 | run-stages:3) _lift_files txt "$word" ;;
+    eval:3 | run:4 | cost:4 | run-stages:4) _lift_files json "$word" ;;
+    compile:3 | steps:3 | stages:3 | run:3 | cost:3 | run-stages:3) _lift_files txt "$word" ;;
     run:5) COMPREPLY=($(compgen -W '--trace' -- "$word")) ;;
+    cost:5) COMPREPLY=($(compgen -W '--items' -- "$word")) ;;
   esac
 }
 

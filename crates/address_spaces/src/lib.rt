@@ -45,7 +45,8 @@ fn add_children(children: Children<'_>, spaces: &mut Vec<AddressSpace>) -> Resul
 #[tactic(auto, using(crate::proofs::Listed::here, crate::proofs::Listed::of_children))]
 #[cycle(spacing)]
 fn add_spaces(node: Node<'_>, spaces: &mut Vec<AddressSpace>) -> Result<(), AllocError>
-    ensures { OnOk result (spaces.new.items ≡ spaces.old.items ++ spaces_in (sites_of [] node.entry)) }
+    ensures { OnOk result
+        (spaces.new.items ≡ spaces.old.items ++ spaces_in (sites_of [] node.entry)) }
 {
     if computes(node) {
         spaces.push(node.around.space)?;

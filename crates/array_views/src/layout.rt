@@ -105,7 +105,14 @@ impl Layout {
                 right: *right,
                 length: outer_length(alloc, names, operand)?,
             }),
-            _ => Ok(Layout::Transpose),
+            UnaryForm::Layout(forms::Layout::Transpose | forms::Layout::Stride(_))
+            | UnaryForm::Div(_)
+            | UnaryForm::Rem(_)
+            | UnaryForm::First
+            | UnaryForm::Second
+            | UnaryForm::ToLocal
+            | UnaryForm::ToPrivate
+            | UnaryForm::Then => Ok(Layout::Transpose),
         }
     }
 

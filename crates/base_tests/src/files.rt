@@ -6,6 +6,7 @@ use lift_io::{
 };
 use std::alloc::{AllocError, Global};
 use std::fs;
+use std::io::Cursor;
 use std::test::Fail;
 
 fn failed(read: Result<Vec<u8>, ReadNo>) -> bool {
@@ -57,6 +58,18 @@ fn writes_to_real_streams(rt: HostRuntime) -> Result<(), Fail> {
             b"{\"value\":[2]}\n"
         )
     );
+    Ok(())
+}
+
+// A stream with room for five bytes takes the first five, and then none.
+#[test]
+fn a_full_stream_takes_a_prefix(rt: HostRuntime) -> Result<(), Fail> {
+    let mut sink = HostSink::new(Cursor::new([0u8; 5]));
+    assert!(rt; takes(sink.write(b"__kernel"), 5));
+    assert!(rt; sink.write(b"nel").is_err());
+    let mut sink = HostSink::new(Cursor::new([0u8; 5]));
+    assert!(rt; write_whole(&mut sink, b"__ker").is_ok());
+    assert!(rt; write_whole(&mut sink, b"nel").is_err());
     Ok(())
 }
 

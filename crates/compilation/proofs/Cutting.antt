@@ -37,8 +37,9 @@ use Rattle.program_source.specs.Terms.{LastOf, TermsOf}
 use Rattle.stages.specs.Stages.{Then}
 use Rattle.compilation.specs.Legal.{IsSoundLowered, lowered_state}
 use Rattle.compilation.specs.Meets.{CanBeLaidOut}
-use Rattle.compilation.specs.Sequence.{AreKernelsFor, AreMadeOf, CompilesInTurn, CompilesParts, CutOf, EndsWith, HaveInputsBehind, IsCompiledSequence, IsLaidOut, IsSequenceFor, Outline, SequenceOf, outline_in, part_of, with_input}
+use Rattle.compilation.specs.Sequence.{AreKernelsFor, AreMadeOf, CompilesInTurn, CompilesParts, CutOf, EndsWith, HasLegalTerm, HaveInputsBehind, IsCompiledSequence, IsLaidOut, IsSequenceFor, Outline, SequenceOf, outline_in, part_of, with_input}
 use Rattle.compilation.proofs.Compiling.{stopped_before, stopped_behind}
+use Rattle.compilation.proofs.Legality.{legal_term}
 
 -- ---- each term is sound
 
@@ -124,6 +125,14 @@ stage_kernels_for local [] ks each = tt
 stage_kernels_for local (l ∷ ls) [] each = absurd each
 stage_kernels_for local (l ∷ ls) (k ∷ ks) each = (each.0.kernel, stage_kernels_for local ls ks each.1)
 
+-- the term of each is legal
+stage_legal : (local : Option (ℕ × ℕ)) (ls : List Lowered) (ks : List Kernel) → AreKernelsOfEach local ls ks → CompilesInTurn local (map term_part ls) (Ok tt) → Every HasLegalTerm (stages_of ls ks)
+stage_legal local [] ks each compiled = tt
+stage_legal local (l ∷ ls) [] each compiled = absurd each
+stage_legal local (l ∷ ls) (k ∷ ks) each compiled =
+    let sound = each.0.sound in
+    (record { legal = legal_term (declared_of l) (lowered_state l) sound compiled.1.1.nest; copies = sound.copies }, stage_legal local ls ks each.1 compiled.2)
+
 -- each names these sizes
 abbrev NamesAll : List Name → List Lowered → Type 0
 NamesAll names ls = (k : ℕ) (x : Lowered) → slice_get ls k ≡ Some x → x.names ≡ names
@@ -208,6 +217,7 @@ module _ (program script : List ℕ) (t : Typed) (last : IsLastTerm program scri
         kernels = stages_of ls ks;
         terms = stage_parts local ls ks made.each;
         inputs = stage_inputs (declared_by source) ls ks named behind;
+        legal = stage_legal local ls ks made.each made.compiled;
         each = subst (λ (o : Option (ℕ × ℕ)). AreKernelsFor o (stages_of ls ks)) fixed (stage_kernels_for local ls ks made.each);
         written = written;
         keep = subst (λ (o : Option (ℕ × ℕ)). SequenceKeeps (declared_by source) o source.body whole (stages_of ls ks)) fixed keep;

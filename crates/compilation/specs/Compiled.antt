@@ -27,8 +27,8 @@ PrintsAtAll p local s k = kernels.PrintsAtAll (declared_by p) local s.tree s.typ
 -- its barriers serve at every launch and on all cells at which the program may run: the items of a
 -- group meet the same barriers with the same turn numbers, and between two releases with the local
 -- flag each cell of a local array that is written is one item's
-abbrev pub ServesAtAll : PlainProgram → (output : PlainTy) → (local : Option (ℕ × ℕ)) → (last : State)
-    → Kernel → Type 0
+abbrev pub ServesAtAll : PlainProgram → (output : PlainTy) → (local : Option (ℕ × ℕ))
+    → (last : State) → Kernel → Type 0
 ServesAtAll p output local last k =
     (w : World) (l : Launch) (c : Cells) → Admits p output (asks_of local last.tree) w l c
     → (filler : Cell → ℕ) × BarriersServeAll k l c filler

@@ -43,8 +43,8 @@ LeavesSource p output asks k = (w : World) (l : Launch) (c : Cells) → Admits p
     → EveryRunLeaves k l c (lists_of output (source_value p w))
 
 -- And each cell is written by its owner, which the last term tells.
-abbrev pub MeetsSource : PlainProgram → (output : PlainTy) → (local : Option (ℕ × ℕ)) → (last : State)
-    → Kernel → Type 0
+abbrev pub MeetsSource : PlainProgram → (output : PlainTy) → (local : Option (ℕ × ℕ))
+    → (last : State) → Kernel → Type 0
 MeetsSource p output local last k =
     (w : World) (l : Launch) (c : Cells) → Admits p output (asks_of local last.tree) w l c
     → EveryRunKeeps k l c (cell_owner (declared_by p).names w.bases l last.tree last.types)

@@ -28,7 +28,8 @@ pub record ArePlaced (l : Lowered) (local : Option (ℕ × ℕ)) (x : Placed) : 
   pub arrays : HaveArrays x
 
 -- this is the term, with what it may name and the local size that is fixed
-pub record AreOfLast (d : Declared) (local : Option (ℕ × ℕ)) (last : State) (x : Placed) : Type 0 where
+pub record AreOfLast (d : Declared) (local : Option (ℕ × ℕ)) (last : State)
+    (x : Placed) : Type 0 where
   pub declared : declared_of x.spaced.mapped.lowered ≡ d
   pub term : lowered_state x.spaced.mapped.lowered ≡ last
   pub fixed : x.spaced.mapped.local ≡ local

@@ -10,6 +10,7 @@ use Rattle.lift_tree.specs.Programs.{PlainProgram, program_of}
 use Rattle.lift_tree.specs.Types.{PlainTy, ty_of}
 use Rattle.lift_tree.specs.Typing.{Declared, HasOutput, declared_by}
 use Rattle.lift_tree.specs.declared.typed.Typed.{Typed}
+use Rattle.lowered_tree.specs.Copies.{CopiesArrays}
 use Rattle.lowered_tree.specs.Kinds.{asks_of}
 use Rattle.lowered_tree.specs.Named.{declared_of}
 use Rattle.lowered_tree.specs.declared.lowered.Lowered.{Lowered}
@@ -21,6 +22,7 @@ use Rattle.kernel_sequence.specs.Refused.{passed_count}
 use Rattle.kernel_sequence.specs.Sequence.{AreKernelsOf}
 use Rattle.kernel_sequence.specs.declared.no.CutNo.{CutNo}
 use Rattle.kernel_sequence.specs.declared.no.CutNo.TheVariants as cuts
+use Rattle.nest_premises.specs.Legal.{IsLegalTerm}
 use Rattle.kernel_emit.specs.Kernels.{IsKernelFor}
 use Rattle.sequence_runs.specs.Runs.{SequenceKeeps, Stage}
 use Rattle.strategy_script.specs.LocalSize.{local_fixed}
@@ -61,7 +63,8 @@ CompilesInTurn local (x ∷ xs) =
 
 -- the terms of a last term's kernels, where all are compiled; or the first stage that
 -- stops: the cut, then each kernel's
-abbrev pub CompilesParts : (inputs : ℕ) → Option (ℕ × ℕ) → State → Result (List Part) Refusal → Type 0
+abbrev pub CompilesParts : (inputs : ℕ) → Option (ℕ × ℕ) → State → Result (List Part) Refusal
+    → Type 0
 CompilesParts i local last =
     Then (As told.Cut (CutOf i last))
     (λ parts. Then (CompilesInTurn local parts) (λ _. Gives parts))
@@ -104,9 +107,18 @@ HaveInputsBehind d [] = Unit {0}
 HaveInputsBehind d (k ∷ ks) =
     (k.declared ≡ d) × HaveInputsBehind (with_input d (type_in k.types)) ks
 
--- each kernel is its own term's, with groups of the local size that is fixed
+-- a kernel's term is legal over what it may name, and copies nothing but arrays
+pub record HasLegalTerm (k : Stage) : Type 0 where
+  pub legal : IsLegalTerm k.declared k.tree k.types
+  pub copies : CopiesArrays k.tree k.types
+
+-- a kernel is its own term's, with groups of the local size that is fixed
+abbrev pub IsOwnKernel : Option (ℕ × ℕ) → Stage → Type 0
+IsOwnKernel local k = IsKernelFor k.declared local k.tree k.types k.kernel
+
+-- and so is each
 abbrev pub AreKernelsFor : Option (ℕ × ℕ) → List Stage → Type 0
-AreKernelsFor local = Every (λ (k : Stage). IsKernelFor k.declared local k.tree k.types k.kernel)
+AreKernelsFor local = Every (IsOwnKernel local)
 
 -- the output of a term's kernel can be laid out
 abbrev pub IsLaidOut : Lowered → Type 0
@@ -131,13 +143,13 @@ pub record AreKernelsOfLast (last : Typed) (local : Option (ℕ × ℕ)) (kernel
   pub made : AreMadeOf local terms kernels outlines
 
 -- The text is that of kernels in order, of the terms that the script's last term is cut into. Each
--- is printed for its term, and has a buffer for each component of the program's inputs, of what
--- each kernel before it makes and of what it makes itself, as one that is compiled alone. And at
--- every list of admissible launches with one valuation, on all inputs, whatever scratch and other
--- memory hold, when the kernels are run in order, each from the buffers that the one before left
--- after it stopped: every run has no fault and at most its bound's events, and writes each cell of
--- its kernel's output at most once, by its owner; and the last kernel's can stop only with the
--- program's value, which is of the output's type.
+-- is printed for its term, a legal one, and has a buffer for each component of the program's
+-- inputs, of what each kernel before it makes and of what it makes itself, as one that is compiled
+-- alone. And at every list of admissible launches with one valuation, on all inputs, whatever
+-- scratch and other memory hold, when the kernels are run in order, each from the buffers that the
+-- one before left after it stopped: every run has no fault and at most its bound's events, and
+-- writes each cell of its kernel's output at most once, by its owner; and the last kernel's can
+-- stop only with the program's value, which is of the output's type.
 pub record IsCompiledSequence (program script : List ℕ) (p : PlainProgram) (output : PlainTy)
     (outlines : List Outline) (text : List ℕ) : Type 0 where
   pub read : IsRead program p
@@ -148,6 +160,7 @@ pub record IsCompiledSequence (program script : List ℕ) (p : PlainProgram) (ou
   pub kernels : List Stage
   pub terms : map part_of kernels ≡ parts
   pub inputs : HaveInputsBehind (declared_by p) kernels
+  pub legal : Every HasLegalTerm kernels
   pub each : AreKernelsFor (local_fixed script) kernels
   pub written : IsSequenceText text (map (λ (k : Stage). k.kernel) kernels)
   pub keep : SequenceKeeps (declared_by p) (local_fixed script) p.body output kernels

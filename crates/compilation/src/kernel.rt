@@ -123,8 +123,8 @@ pub fn kernel_of_lowered(
 /// A last term, placed as a lowered one.
 pub fn placed_last(alloc: Global, last: &Typed, local: Option<LocalSize>) -> Result<Placed, Refusal>
     requires typed { IsTypedLast last.now }
-    ensures placed { IfOk result
-        (AreOfLast (declared_by (program_of last.now.program)) (size_fixed local) (state_of last.now)) }
+    ensures placed { IfOk result (AreOfLast (declared_by (program_of last.now.program))
+        (size_fixed local) (state_of last.now)) }
     ensures accepted { IfOk result (λ _. IsAccepted (program_of last.now.program)
         (tree_of last.now.term) (annotation_of last.now.types)) }
     ensures compiles { IfOk result (λ _. CompilesTerm (size_fixed local) (state_of last.now)

@@ -10,7 +10,8 @@ use Rattle.kernel_tree.specs.Device.{Cell, LocalFence, GlobalFence, fence_of, le
 use Rattle.kernel_tree.specs.Faults.{Among}
 use Rattle.kernel_tree.specs.Numbering.{Members, member_at, number_in_group}
 use Rattle.kernel_tree.proofs.Grouping.{group_in_launch, members}
-use Rattle.kernel_tree.proofs.Stride.{turns_of, turn_below}
+use Rattle.kernel_tree.specs.Strides.{turns_of}
+use Rattle.kernel_tree.proofs.Stride.{turn_below}
 use Rattle.lift_ir.specs.Types.{Ty, ArrayOf, IsPosition, IsFlat, width, component, flat, unflat}
 use Rattle.lift_ir.specs.Terms.{LoadsScalars}
 use Rattle.lift_ir.specs.Scalars.{Scalars}

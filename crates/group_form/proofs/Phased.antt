@@ -9,7 +9,8 @@ use Rattle.kernel_tree.specs.Launch.{Launch, Cells, IsWhole, item_count, groups_
 use Rattle.kernel_tree.specs.Device.{Cell, LocalFence, GlobalFence, fence_of, length_in, row}
 use Rattle.kernel_tree.specs.Faults.{Among}
 use Rattle.kernel_tree.proofs.Grouping.{group_in_launch, flat_groups, flat_group}
-use Rattle.kernel_tree.proofs.Stride.{turns_of, turn_below, turn_owner, owner_turn, owner_has}
+use Rattle.kernel_tree.specs.Strides.{turns_of}
+use Rattle.kernel_tree.proofs.Stride.{turn_below, turn_owner, owner_turn, owner_has}
 use Rattle.lift_ir.specs.Types.{Ty, Scalar, PairOf, ArrayOf, IsPosition, IsFlat, width, component, flat, unflat}
 use Rattle.lift_ir.specs.Terms.{LoadsScalars}
 use Rattle.lift_ir.specs.Scalars.{Scalars, at_index}

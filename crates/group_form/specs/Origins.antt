@@ -1,7 +1,8 @@
 -- In which local array each component of an argument lies, and whether it is reached plainly.
 use Rattle.std.specs.Prelude.{ℕ, ◌+◌, Bool, true, false, List, [], ◌∷◌}
 use Rattle.lift_ir.specs.Types.{Ty, Scalar, PairOf, ArrayOf, width}
-use Rattle.lift_ir.specs.Terms.{Term, Bound, Source, Both, Project, Reshape, LetArray, Copy, push}
+use Rattle.lift_ir.specs.Standing.{Standing, stands_for}
+use Rattle.lift_ir.specs.Terms.{Term}
 use Rattle.printed_form.specs.Counts.{local_count}
 
 -- in no local array; in this one, reached by variables, zip, first and second alone or not; or by
@@ -34,14 +35,18 @@ laid_from n Scalar = Within n true
 laid_from n (PairOf a b) = BySide (laid_from n a) (laid_from (n + width a) b)
 laid_from n (ArrayOf m t) = laid_from n t
 
+-- an input is in no local array, and a copy in new ones
+abbrev pub origin_standing : {A : Type 0} → Standing A Origin
+origin_standing = record {
+  source = λ input. Elsewhere;
+  both = BySide;
+  side = on_side;
+  through = λ y o. bent o;
+  in_let = bent;
+  copy = λ number space ty. laid_from number ty;
+  nothing = Elsewhere;
+}
+
 -- an argument's origin, where its first local array is this
 abbrev pub origin_of : {A : Type 0} → (ℕ → Origin) → ℕ → Term A → Origin
-origin_of env k (Bound v) = env v
-origin_of env k (Source a) = Elsewhere
-origin_of env k (Both zips a b) = BySide (origin_of env k a) (origin_of env (k + local_count a) b)
-origin_of env k (Project s a) = on_side s (origin_of env k a)
-origin_of env k (Reshape l a) = bent (origin_of env k a)
-origin_of env k (LetArray v b) =
-    bent (origin_of (push (origin_of env k v) env) (k + local_count v) b)
-origin_of env k (Copy space ty a) = laid_from (k + local_count a) ty
-origin_of env k _ = Elsewhere
+origin_of env k t = stands_for origin_standing local_count env k t

@@ -9,7 +9,8 @@ use Rattle.kernel_tree.specs.Code.{Private, FromLocalId, ByLocalSize, Code, End,
 use Rattle.kernel_tree.specs.Launch.{ids_of}
 use Rattle.kernel_tree.specs.Item.{Frame, loop_variables}
 use Rattle.kernel_tree.specs.Rounds.{Loop, Counts}
-use Rattle.kernel_tree.proofs.Stride.{turns_of, turn_below, turn_past}
+use Rattle.kernel_tree.specs.Strides.{turns_of}
+use Rattle.kernel_tree.proofs.Stride.{turn_below, turn_past}
 use Rattle.lift_ir.specs.Types.{Ty, ArrayOf}
 use Rattle.lift_ir.specs.Terms.{LoadSet, Local, Term, push, HasType, LoadsScalars}
 use Rattle.lift_ir.specs.Scalars.{Scalars, at_index, mapped, scalars_of}

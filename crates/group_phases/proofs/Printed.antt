@@ -10,7 +10,8 @@ use Rattle.kernel_tree.specs.Item.{Frame, loop_variables}
 use Rattle.kernel_tree.specs.Device.{Device, Cell, cell_at, Memory, device_of}
 use Rattle.kernel_tree.specs.Independent.{Owners}
 use Rattle.kernel_tree.proofs.Grouping.{group_in_launch, flat_items, flat_groups, flat_group, flat_group_id, flat_local}
-use Rattle.kernel_tree.proofs.Stride.{turns_of, turn_below}
+use Rattle.kernel_tree.specs.Strides.{turns_of}
+use Rattle.kernel_tree.proofs.Stride.{turn_below}
 use Rattle.barrier_placement.specs.Conflicts as placed
 use Rattle.barrier_placement.specs.Conflicts.{space_of}
 use Rattle.barrier_placement.specs.Fencing.{Fencing}

@@ -10,7 +10,8 @@ use Rattle.kernel_tree.specs.Item.{Frame, loop_variables}
 use Rattle.kernel_tree.specs.Device.{Device, still}
 use Rattle.kernel_tree.specs.Rounds.{Loop, frame_of, Counts}
 use Rattle.kernel_tree.proofs.Rows.{then-end}
-use Rattle.kernel_tree.proofs.Stride.{turns_of, turn_below, turn_past}
+use Rattle.kernel_tree.specs.Strides.{turns_of}
+use Rattle.kernel_tree.proofs.Stride.{turn_below, turn_past}
 use Rattle.lift_ir.specs.Terms.{Kind}
 use Rattle.printed_form.specs.Form.{start_of, stride_of}
 use Rattle.printed_form.specs.MapForms.{MapForm, Looped, Guarded, Alone, TurnCode, AreTurns, variables_in}

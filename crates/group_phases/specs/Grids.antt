@@ -3,7 +3,7 @@
 -- one row, from row 0 by 1.
 use Rattle.std.specs.Prelude.{◌≡◌, ℕ, ◌+◌, ◌*◌, ◌/◌, ◌%◌, ◌<◌}
 use Rattle.kernel_tree.specs.Launch.{Launch, ids_of, groups_across, groups_down}
-use Rattle.kernel_tree.proofs.Stride.{turns_of}
+use Rattle.kernel_tree.specs.Strides.{turns_of}
 
 -- so many rows, each of so many places
 pub record Grid : Type 0 where

@@ -6,7 +6,7 @@ use Rattle.kernel_tree.specs.Code.{Code, End, Kernel}
 use Rattle.kernel_tree.specs.Launch.{Launch, Cells, IsWhole, ids_of, group_of, groups_across, item_count}
 use Rattle.kernel_tree.specs.Item.{Item, item, Ends, next, Frame}
 use Rattle.kernel_tree.specs.Device.{Cell, device_of, row, still}
-use Rattle.kernel_tree.proofs.Stride.{turns_of}
+use Rattle.kernel_tree.specs.Strides.{turns_of}
 use Rattle.barrier_placement.specs.Fencing.{Fencing}
 use Rattle.printed_form.specs.Counts.{Count}
 use Rattle.printed_form.specs.Runs.{Fits}

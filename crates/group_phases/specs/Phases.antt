@@ -5,7 +5,7 @@ use Rattle.kernel_tree.specs.Formula.{Vars, word, vector}
 use Rattle.kernel_tree.specs.Code.{Code, Kernel}
 use Rattle.kernel_tree.specs.Launch.{Launch, Cells, item_count, group_of, groups_across}
 use Rattle.kernel_tree.specs.Device.{Cell, cell_at, length_in}
-use Rattle.kernel_tree.proofs.Stride.{turns_of}
+use Rattle.kernel_tree.specs.Strides.{turns_of}
 use Rattle.barrier_placement.specs.declared.touches.Touch.{Touch}
 use Rattle.lift_ir.specs.Types.{Ty, IsPosition}
 use Rattle.lift_ir.specs.Terms.{LoadSet, WorkGroup, Local, Term, push}

@@ -3,7 +3,7 @@ use Rattle.std.specs.Prelude.{◌≡◌, ℕ, ◌+◌, ◌%◌, ◌<◌, ◌≤�
 use Rattle.kernel_tree.specs.Code.{Kernel}
 use Rattle.kernel_tree.specs.Launch.{Launch, Cells, IsWhole, IsFlat, group_of, groups_across, item_count}
 use Rattle.kernel_tree.specs.Device.{Cell, length_in, row}
-use Rattle.kernel_tree.proofs.Stride.{turns_of}
+use Rattle.kernel_tree.specs.Strides.{turns_of}
 use Rattle.barrier_placement.specs.Conflicts as placed
 use Rattle.barrier_placement.specs.Conflicts.{space_of}
 use Rattle.barrier_placement.specs.Fencing.{Fencing}

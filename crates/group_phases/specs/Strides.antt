@@ -7,7 +7,7 @@ use Rattle.kernel_tree.specs.Launch.{Launch, ids_of}
 use Rattle.kernel_tree.specs.Item.{Frame}
 use Rattle.kernel_tree.specs.Device.{Device}
 use Rattle.kernel_tree.specs.Rounds.{Loop, frame_of}
-use Rattle.kernel_tree.proofs.Stride.{turns_of}
+use Rattle.kernel_tree.specs.Strides.{turns_of}
 use Rattle.printed_form.specs.Form.{IsTurn}
 use Rattle.printed_form.specs.MapForms.{MapForm, Looped, Guarded, Alone, TurnCode}
 use Rattle.group_phases.specs.TurnForms.{Form, TakesTurns}

@@ -1,5 +1,5 @@
 -- The row and the column of a cell of two variables come back.
-use Rattle.std.proofs.Common.{◌<◌, ◌≤◌, refl, arith}
+use Rattle.std.proofs.Common.{refl, arith}
 use Rattle.std.proofs.lemmas.Bool.{eq-eqb, lt-ltb, ne_eqb}
 use Rattle.index_simplify.specs.Promises.{CellsComeApart, NothingIsAdded}
 

@@ -1,21 +1,22 @@
 -- What passes the test stays below the length.
 use Rattle.std.proofs.Common.{◌≡◌, ℕ, zero, suc, ℤ, pos, ◌+◌, ◌*◌, ◌/◌, ◌%◌, ◌<◌, ◌≤◌, ◌+ℤ◌, ◌*ℤ◌, Bool, true, false, Option, Some, None, List, refl, sym, ap, ◌∙◌, subst, arith}
-use Rattle.std.specs.Prelude.{◌&&◌, ◌||◌, ◌<ℤ◌, nat_lt, if◌then◌else◌, is_some, slice_get, slice_index, int_div, int_rem}
+use Rattle.std.specs.Prelude.{◌&&◌, ◌||◌, ◌<ℤ◌, ◌-ℤ◌, ◌^◌, ◌-◌, max, nat_lt, if◌then◌else◌, is_some, option_map, slice_get, slice_index, int_div, int_rem}
+use Rattle.std.specs.Int.{int_max}
 use Rattle.std.proofs.lemmas.Bool.{and_parts, or_cases, ltb-true}
 use Rattle.std.proofs.Common.{inl, inr}
-use Rattle.std.proofs.lemmas.Int.{ints}
+use Rattle.std.proofs.lemmas.Int.{ints, clamps}
 use Rattle.std.proofs.lemmas.Nat.{le-div}
 use Rattle.std.proofs.Math.Arith.{digits_lt}
 use Rattle.std.proofs.Math.Nat.{div-lt_iff_lt-mul, div-mul-le_self, mod-lt}
-use Rattle.index_expr.specs.declared.operation.Operation.TheVariants.{Sum, Product, Quotient, Remainder}
+use Rattle.index_expr.specs.declared.operation.Operation.TheVariants.{Sum, Difference, Product, Quotient, Remainder, Greatest}
 use Rattle.index_expr.specs.Expression.{Expression, Variable, Literal, Size, Binary}
 use Rattle.index_expr.specs.Values.{exact}
 use Rattle.index_simplify.specs.PlainRanges.{PlainRanges}
-use Rattle.index_simplify.specs.Tests.{is_at_least, is_no_longer}
+use Rattle.index_simplify.specs.Tests.{is_number, is_at_least, is_no_longer, is_positive}
 use Rattle.index_simplify.specs.Factors.{over}
-use Rattle.index_simplify.specs.Below.{is_natural, is_passed, is_part_within, is_greatest_below, is_quotient_below, is_remainder_below, is_digit_below, rows_within, is_sum_below, stays_below}
-use Rattle.index_simplify.specs.Ranges.{AreBelowLengths, AreWithin}
-use Rattle.index_simplify.proofs.Tests.{IsNatural, count_value, IsColumn, IsAbove, counted_least, counted_longer, column_of}
+use Rattle.index_simplify.specs.Below.{is_natural, is_passed, is_part_within, is_greatest_below, is_quotient_below, is_remainder_below, is_digit_below, rows_within, is_sum_below, literal_sum, longer, length_before, stays_below}
+use Rattle.index_simplify.specs.Ranges.{AreBelowLengths, AreMultiples, ArePositive, AreWithin}
+use Rattle.index_simplify.proofs.Tests.{count_value, number_value, positive_value, IsColumn, counted_least, counted_longer, column_of}
 use Rattle.index_simplify.proofs.Divided.{IfLeft, over_left, over_value}
 
 part_below : (v q d : ℕ) → v < q * d → v / d < q
@@ -36,7 +37,47 @@ rows_are : (b : Bool) (o : Option Expression) (q : Expression) → (if b then o 
 rows_are true o q h = (refl, h)
 rows_are false o q h = absurd (cc h)
 
-module _ (sizes variables : List ℕ) (r : PlainRanges) (loops : AreBelowLengths r sizes variables) where
+-- ---- so many more than a length
+module _ (sizes variables : List ℕ) where
+  pub sum_is : (m n : ℕ) (q : Expression) → literal_sum m n ≡ Some q → exact sizes variables q ≡ pos (m + n)
+  sum_is m n q h = go (nat_lt (m + n) (2 ^ 32)) h
+    where
+      go : (b : Bool) → option_map Literal (if b then Some (m + n) else None) ≡ Some q → exact sizes variables q ≡ pos (m + n)
+      go true e = let same : Literal (m + n) ≡ q = cc e in ap (exact sizes variables) (sym same)
+      go false e = absurd (cc e)
+
+  in_front : (n : ℕ) (e q : Expression) → Some (Binary Sum (Literal n) e) ≡ Some q → exact sizes variables q ≡ exact sizes variables e +ℤ pos n
+  in_front n e q h = let same : Binary Sum (Literal n) e ≡ q = cc h in let z : ℤ = exact sizes variables e in ap (exact sizes variables) (sym same) ∙ front z
+    where
+      front : (z : ℤ) → pos n +ℤ z ≡ z +ℤ pos n
+      front z = omega (arith, ints)
+
+  longer_is : (e : Expression) (n : ℕ) (q : Expression) → longer e n ≡ Some q → exact sizes variables q ≡ exact sizes variables e +ℤ pos n
+  longer_is (Literal m) n q h = sum_is m n q h
+  longer_is (Variable k l g) n q h = in_front n (Variable k l g) q h
+  longer_is (Size k) n q h = in_front n (Size k) q h
+  longer_is (Binary Sum (Literal m) rest) n q h = go (literal_sum m n) refl h
+    where
+      front : (z : ℤ) → pos (m + n) +ℤ z ≡ (pos m +ℤ z) +ℤ pos n
+      front z = omega (arith, ints)
+
+      go : (s : Option Expression) → literal_sum m n ≡ s → option_map (λ number. Binary Sum number rest) s ≡ Some q → exact sizes variables q ≡ exact sizes variables (Binary Sum (Literal m) rest) +ℤ pos n
+      go (Some number) is e =
+          let same : Binary Sum number rest ≡ q = cc e in
+          ap (exact sizes variables) (sym same) ∙ ap (λ z. z +ℤ exact sizes variables rest) (sum_is m n number is) ∙ front (exact sizes variables rest)
+      go None is e = absurd (cc e)
+  longer_is (Binary o a b) n q h = in_front n (Binary o a b) q h
+
+-- made no less than a number that is then taken away
+behind_is : (E M T : ℤ) (e m : ℕ) → E ≡ pos e → M ≡ pos m → T ≡ pos m → int_max E M -ℤ T ≡ pos (max e m - m)
+behind_is E M T e m f g h = rw (f, g, h) (omega (arith, ints, clamps))
+
+behind_below : (e m v n : ℕ) (N Q : ℤ) → N ≡ pos v → Q ≡ pos n → Q ≡ N +ℤ pos m → 0 < v → e < n → max e m - m < v
+behind_below e m v n N Q f g h some lt =
+    let long : n ≡ v + m = (let both : pos n ≡ pos (v + m) = sym g ∙ h ∙ ap (λ z. z +ℤ pos m) f in cc both) in
+    omega arith
+
+module _ (sizes variables : List ℕ) (r : PlainRanges) (loops : AreBelowLengths r sizes variables) (all : AreMultiples r sizes) (some : ArePositive r sizes) where
   cell_below : (row width column n : Expression) (rows : Option Expression) → rows_within r width column n ≡ rows → is_passed (λ q. is_digit_below r row q) rows ≡ true → (is_digit_below r column width ≡ true → IsColumn sizes variables column width) → ((q : Expression) → is_digit_below r row q ≡ true → IsColumn sizes variables row q) → IsColumn sizes variables (Binary Sum (Binary Product row width) column) n
   cell_below row width column n None e h within each = absurd (cc h)
   cell_below row width column n (Some q) e h within each =
@@ -126,11 +167,31 @@ module _ (sizes variables : List ℕ) (r : PlainRanges) (loops : AreBelowLengths
   digit_is (Binary Remainder a b) n own h = remainder_below a b n h
   digit_is _ n own h = absurd (cc h)
 
-  sum_is : (begin column n : Expression) → AreWithin variables (Binary Sum begin column) → is_sum_below r begin column n ≡ true → IsColumn sizes variables (Binary Sum begin column) n
-  sum_is (Binary Product row width) column n own h =
+  cell_is : (begin column n : Expression) → AreWithin variables (Binary Sum begin column) → is_sum_below r begin column n ≡ true → IsColumn sizes variables (Binary Sum begin column) n
+  cell_is (Binary Product row width) column n own h =
       cell_below row width column n (rows_within r width column n) refl h (λ passed. digit_is column width own.1 passed) (λ q passed. digit_is row q own.0.0 passed)
-  sum_is _ column n own h = absurd (cc h)
+  cell_is _ column n own h = absurd (cc h)
+
+  behind : (e least taken n : Expression) (before : Option Expression) → length_before r least taken n ≡ before → is_passed (λ q. stays_below r e q) before ≡ true → ((q : Expression) → stays_below r e q ≡ true → IsColumn sizes variables e q)
+      → IsColumn sizes variables (Binary Difference (Binary Greatest e least) taken) n
+  behind e least taken n None is h each = absurd (cc h)
+  behind e (Literal m) taken n (Some q) is h each =
+      let parts = rows_are (is_number m taken && is_positive r n) (longer n m) q is in
+      let tests = and_parts (is_number m taken) (is_positive r n) parts.0 in
+      let c = each q h in
+      let v = positive_value sizes variables r all some n tests.1 in
+      record {
+        at = max c.at m - m;
+        count = v.0;
+        column_is = behind_is (exact sizes variables e) (pos m) (exact sizes variables taken) c.at m c.column_is refl (sym (number_value sizes variables m taken tests.0));
+        length_is = v.1;
+        below = behind_below c.at m v.0 c.count (exact sizes variables n) (exact sizes variables q) v.1 c.length_is (longer_is sizes variables n m q parts.1) v.2 c.below;
+      }
+  behind e (Variable k l g) taken n (Some q) is h each = absurd (cc is)
+  behind e (Size k) taken n (Some q) is h each = absurd (cc is)
+  behind e (Binary o a b) taken n (Some q) is h each = absurd (cc is)
 
   pub below_is : (e n : Expression) → AreWithin variables e → stays_below r e n ≡ true → IsColumn sizes variables e n
-  below_is (Binary Sum begin column) n own h = sum_is begin column n own h
+  below_is (Binary Sum begin column) n own h = cell_is begin column n own h
+  below_is (Binary Difference (Binary Greatest e least) taken) n own h = behind e least taken n (length_before r least taken n) refl h (λ q passed. below_is e q own.0.0 passed)
   below_is e n own h = digit_is e n own h

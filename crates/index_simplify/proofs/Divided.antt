@@ -1,5 +1,5 @@
 -- What a length is over another: the value, and that it is no larger.
-use Rattle.std.proofs.Common.{◌≡◌, ℕ, ℤ, pos, ◌+◌, ◌*◌, ◌/◌, ◌%◌, ◌<◌, ◌≤◌, ◌+ℤ◌, ◌*ℤ◌, Bool, true, false, Option, Some, None, List, refl, sym, ap, ◌∙◌, subst, arith}
+use Rattle.std.proofs.Common.{◌≡◌, ℕ, ℤ, pos, ◌+◌, ◌*◌, ◌/◌, ◌%◌, ◌≤◌, ◌*ℤ◌, Bool, true, false, Option, Some, None, List, refl, sym, ap, ◌∙◌, subst, arith}
 use Rattle.std.specs.Prelude.{◌==◌, ◌&&◌, nat_lt, if◌then◌else◌, option_and_then}
 use Rattle.std.proofs.lemmas.Bool.{and_parts, eqb-true}
 use Rattle.std.proofs.lemmas.Int.{ints}
@@ -7,7 +7,7 @@ use Rattle.std.proofs.lemmas.Nat.{div-add-mod'}
 use Rattle.std.proofs.Math.IntN.{*ℤ_comm}
 use borrow.Author.Differences.{up, down, same_in, product_is}
 use Rattle.index_expr.specs.declared.operation.Operation.TheVariants.{Product}
-use Rattle.index_expr.specs.Expression.{Expression, Variable, Literal, Size, Binary, nodes}
+use Rattle.index_expr.specs.Expression.{Expression, Literal, Binary, nodes}
 use Rattle.index_expr.specs.Values.{exact}
 use Rattle.index_simplify.specs.Tests.{is_number, same}
 use Rattle.index_simplify.specs.Factors.{times, number_over, one_where, in_product, without, over}

@@ -1,9 +1,9 @@
 -- An operation on two simplified expressions, by a law or as it is, is simplified.
-use Rattle.std.proofs.Common.{◌≡◌, ◌≢◌, ℕ, pos, true, Option, Some, None, List, refl, sym, ap, ◌∙◌, subst, arith}
+use Rattle.std.proofs.Common.{◌≡◌, ◌≢◌, ℕ, pos, true, Option, Some, None, List, refl, sym, subst, arith}
 use Rattle.index_expr.specs.declared.operation.Operation.{Operation}
 use Rattle.index_expr.specs.declared.operation.Operation.TheVariants.{Product}
 use Rattle.index_expr.specs.Expression.{Expression, Variable, Literal, Size, Binary, expression_of}
-use Rattle.index_expr.specs.Values.{operate, exact, EachOperation, Divides, WantsWords, IsWord, HasWordArgumentsAt, HasNoZeroDivisorAt}
+use Rattle.index_expr.specs.Values.{exact, EachOperation, Divides, WantsWords, IsWord}
 use Rattle.index_simplify.specs.PlainRanges.{PlainRanges}
 use Rattle.index_simplify.specs.declared.law.Law.{Law}
 use Rattle.index_simplify.specs.declared.law.Law.TheVariants.{Computed, PlusZero, ZeroPlus, MinusZero, MinusItself, TimesOne, OneTimes, TimesZero, ZeroTimes, OverOne, ModuloOne, WholeSize, ScaledSize, RowOfCell, ColumnOfCell, CellOfParts, GreatestZero, ZeroGreatest, LeastZero, ZeroLeast}
@@ -99,10 +99,10 @@ record IsKept (r : PlainRanges) (e s : Expression) : Type 0 where
 
 module _ (r : PlainRanges) (o : Operation) (a b c d : Expression) (x : IsKept r a c) (y : IsKept r b d) where
   first_stands : (sizes variables : List ℕ) → IsPoint r sizes variables (Binary o a b) → StandsFor sizes variables a c
-  first_stands sizes variables p = x.stands sizes variables (record { loops = p.loops; multiples = p.multiples; own = p.own.0 })
+  first_stands sizes variables p = x.stands sizes variables (record { loops = p.loops; multiples = p.multiples; positive = p.positive; own = p.own.0 })
 
   second_stands : (sizes variables : List ℕ) → IsPoint r sizes variables (Binary o a b) → StandsFor sizes variables b d
-  second_stands sizes variables p = y.stands sizes variables (record { loops = p.loops; multiples = p.multiples; own = p.own.1 })
+  second_stands sizes variables p = y.stands sizes variables (record { loops = p.loops; multiples = p.multiples; positive = p.positive; own = p.own.1 })
 
   by_stands : (found : Option Law) → first_law r o c d LAWS ≡ found → (sizes variables : List ℕ) → IsPoint r sizes variables (Binary o a b) → StandsFor sizes variables (Binary o a b) (by_law found o c d)
   by_stands None e sizes variables p = stands_joined sizes variables o a b c d (first_stands sizes variables p) (second_stands sizes variables p)
@@ -152,10 +152,10 @@ recut_is_simplified r e s x =
     record {
       stands = λ sizes variables p.
           let at_s = x.stands sizes variables p in
-          let at_parted = moved.stands sizes variables (record { loops = p.loops; multiples = p.multiples; own = at_s.own }) in
+          let at_parted = moved.stands sizes variables (record { loops = p.loops; multiples = p.multiples; positive = p.positive; own = at_s.own }) in
           stands_then sizes variables e s (tabled r (parted r s)) at_s
           (stands_then sizes variables s (parted r s) (tabled r (parted r s)) at_parted
-          (t.stands sizes variables (record { loops = p.loops; multiples = p.multiples; own = at_parted.own })));
+          (t.stands sizes variables (record { loops = p.loops; multiples = p.multiples; positive = p.positive; own = at_parted.own })));
       small = then_small e s (tabled r (parted r s)) x.small small;
       literals = λ h. t.literals (moved.literals (x.literals h));
       short = λ h. let le = x.short h in omega arith;

@@ -1,28 +1,28 @@
 -- Each law of cells keeps the value at every point of the ranges, and makes nothing larger.
-use Rattle.std.proofs.Common.{◌≡◌, ◌≢◌, ℕ, zero, suc, ℤ, pos, ◌+◌, ◌*◌, ◌/◌, ◌%◌, ◌^◌, ◌<◌, ◌≤◌, ◌+ℤ◌, ◌*ℤ◌, max, Bool, true, false, Option, Some, None, List, refl, sym, ap, ◌∙◌, subst, arith, ⊎_elim}
+use Rattle.std.proofs.Common.{◌≡◌, ◌≢◌, ℕ, zero, suc, ℤ, pos, ◌+◌, ◌*◌, ◌/◌, ◌%◌, ◌<◌, ◌≤◌, ◌+ℤ◌, ◌*ℤ◌, max, Bool, true, false, Option, Some, None, List, refl, sym, ap, ◌∙◌, subst, arith}
 use Rattle.std.proofs.lemmas.Bool.{and_from, and_parts, or_cases}
-use Rattle.std.specs.Prelude.{◌&&◌, ◌||◌, ◌≤ℤ◌, if◌then◌else◌, int_div, int_rem, unwrap_or, option_and_then, option_map}
-use Rattle.std.proofs.lemmas.Int.{ints}
+use Rattle.std.specs.Prelude.{◌&&◌, ◌||◌, ◌-ℤ◌, if◌then◌else◌, int_div, int_rem, unwrap_or, option_and_then, option_map}
+use Rattle.std.specs.Int.{int_min}
+use Rattle.std.proofs.lemmas.Int.{ints, clamps}
 use Rattle.std.proofs.lemmas.Nat.{div-mul-add, mod-mul-add}
 use Rattle.std.proofs.Math.IntN.{zero-*ℤ, *ℤ-zero}
 use Rattle.std.proofs.Common.{inl, inr}
 use Rattle.std.proofs.Math.Nat.{div-eq_of_lt, mod-eq_of_lt, mul-add-div_right, mul-add-mod_self_right, div-div-eq-div-mul, div-add-mod, div-le_self, mul_assoc, mul_comm, mod-lt, mod-zero, zero-mul, mul-le-mul_right}
 use Rattle.index_expr.specs.declared.operation.Operation.{Operation}
-use Rattle.index_expr.specs.declared.operation.Operation.TheVariants.{Sum, Difference, Product, Quotient, Remainder, Least, Greatest}
-use Rattle.index_expr.specs.Expression.{Expression, Variable, Literal, Size, Binary, nodes}
-use Rattle.index_expr.specs.Values.{exact, EachOperation, Divides, WantsWords, IsWord, HasWordArgumentsAt, HasNoZeroDivisorAt}
+use Rattle.index_expr.specs.declared.operation.Operation.TheVariants.{Sum, Difference, Product, Quotient, Remainder, Least}
+use Rattle.index_expr.specs.Expression.{Expression, Variable, Literal, Size, Binary}
+use Rattle.index_expr.specs.Values.{exact, EachOperation, Divides, WantsWords, IsWord}
 use Rattle.index_simplify.specs.PlainRanges.{PlainRanges}
-use Rattle.index_simplify.specs.Tests.{same}
-use Rattle.index_simplify.specs.Laws.{first_part}
+use Rattle.index_simplify.specs.Tests.{is_number, same}
 use Rattle.index_simplify.specs.Factors.{over}
-use Rattle.index_simplify.specs.Below.{is_natural, stays_below}
-use Rattle.index_simplify.specs.Cells.{is_no_higher, is_cell, natural_over, split_row, cell_by, cell_over, sum_over, column_modulo, row_modulo, modulo_by, cell_modulo, sum_modulo, rows_around, remainder_over, remainder_modulo, quotient_of, remainder_of, quotient, remainder, product, part_of, parted_operation, parted}
+use Rattle.index_simplify.specs.Below.{is_natural, is_passed, literal_sum, stays_below, is_at_most}
+use Rattle.index_simplify.specs.Cells.{is_no_higher, is_cell, natural_over, cell_by, cell_over, sum_over, column_modulo, row_modulo, modulo_by, cell_modulo, sum_modulo, remainder_over, remainder_modulo, quotient_of, remainder_of, part_of, parted_operation, parted}
 use Rattle.index_simplify.specs.Ranges.{AreWithin, IsPoint}
 use Rattle.index_simplify.specs.Simplified.{height, names_are, HasWordLiterals, StandsFor, IsNoLarger}
-use Rattle.index_simplify.proofs.Tests.{IsNatural, count_value, same_value, IsColumn}
-use Rattle.index_simplify.proofs.Parts.{some_node, some_height, same_small, then_small, joined_small, left_small, literal_small}
+use Rattle.index_simplify.proofs.Tests.{count_value, number_value, same_value, IsColumn}
+use Rattle.index_simplify.proofs.Parts.{some_height, same_small, then_small, joined_small, left_small, right_small, literal_small}
 use Rattle.index_simplify.proofs.Divided.{over_value, over_has, over_less}
-use Rattle.index_simplify.proofs.Bounds.{both_of, below_is, length_from, cell_from}
+use Rattle.index_simplify.proofs.Bounds.{both_of, sum_is, below_is, length_from, cell_from}
 use Rattle.index_simplify.proofs.Standing.{stands_by, stands_joined, stands_then, stands_itself}
 
 -- ---- over the natural numbers
@@ -160,7 +160,7 @@ module _ (r : PlainRanges) (row width column : Expression) (cell : is_cell r row
   cell_at sizes variables e p own =
       let parts = both_of (is_natural row) (stays_below r column width) cell in
       let x = count_value sizes variables 3 row parts.0 in
-      record { row_at = x.0; row_is = x.1; within = below_is sizes variables r p.loops column width own parts.1 }
+      record { row_at = x.0; row_is = x.1; within = below_is sizes variables r p.loops p.multiples p.positive column width own parts.1 }
 
   -- the words of a cell's parts
   cell_word : (sizes variables : List ℕ) (c : IsCellAt sizes variables row width column) → IsWord (exact sizes variables (Cell row width column)) → IsWord (pos (c.row_at * c.within.count + c.within.at))
@@ -430,7 +430,7 @@ module _ (r : PlainRanges) (a n : Expression) (below : stays_below r a n ≡ tru
   zero_moved : IsMoved r (Binary Quotient a n) (Literal 0)
   zero_moved = record {
     stands = λ sizes variables p.
-        let c = below_is sizes variables r p.loops a n p.own.0 below in
+        let c = below_is sizes variables r p.loops p.multiples p.positive a n p.own.0 below in
         stands_by sizes variables (Binary Quotient a n) (Literal 0)
         (below_over (exact sizes variables a) (exact sizes variables n) c.at c.count c.column_is c.length_is c.below) (λ h. tt) (λ h. tt) tt;
     small = literal_small (Binary Quotient a n) 0;
@@ -440,7 +440,7 @@ module _ (r : PlainRanges) (a n : Expression) (below : stays_below r a n ≡ tru
   itself_moved : IsMoved r (Binary Remainder a n) a
   itself_moved = record {
     stands = λ sizes variables p.
-        let c = below_is sizes variables r p.loops a n p.own.0 below in
+        let c = below_is sizes variables r p.loops p.multiples p.positive a n p.own.0 below in
         stands_by sizes variables (Binary Remainder a n) a
         (below_modulo (exact sizes variables a) (exact sizes variables n) c.at c.count c.column_is c.length_is c.below) (λ h. h.1) (λ h. h.1) p.own.0;
     small = left_small Remainder a n;
@@ -460,7 +460,7 @@ times_nothing A B b n e f lt = let one : 1 ≡ n = cc f in let none : b ≡ 0 = 
 first_nothing : (r : PlainRanges) (a b : Expression) → stays_below r a (Literal 1) ≡ true → IsMoved r (Binary Product a b) (Literal 0)
 first_nothing r a b below = record {
   stands = λ sizes variables p.
-      let c = below_is sizes variables r p.loops a (Literal 1) p.own.0 below in
+      let c = below_is sizes variables r p.loops p.multiples p.positive a (Literal 1) p.own.0 below in
       stands_by sizes variables (Binary Product a b) (Literal 0)
       (nothing_times (exact sizes variables a) (exact sizes variables b) c.at c.count c.column_is c.length_is c.below) (λ h. tt) (λ h. tt) tt;
   small = literal_small (Binary Product a b) 0;
@@ -470,7 +470,7 @@ first_nothing r a b below = record {
 second_nothing : (r : PlainRanges) (a b : Expression) → stays_below r b (Literal 1) ≡ true → IsMoved r (Binary Product a b) (Literal 0)
 second_nothing r a b below = record {
   stands = λ sizes variables p.
-      let c = below_is sizes variables r p.loops b (Literal 1) p.own.1 below in
+      let c = below_is sizes variables r p.loops p.multiples p.positive b (Literal 1) p.own.1 below in
       stands_by sizes variables (Binary Product a b) (Literal 0)
       (times_nothing (exact sizes variables a) (exact sizes variables b) c.at c.count c.column_is c.length_is c.below) (λ h. tt) (λ h. tt) tt;
   small = literal_small (Binary Product a b) 0;
@@ -480,11 +480,59 @@ second_nothing r a b below = record {
 first_moved : (r : PlainRanges) (a b : Expression) → stays_below r b (Literal 1) ≡ true → IsMoved r (Binary Sum a b) a
 first_moved r a b below = record {
   stands = λ sizes variables p.
-      let c = below_is sizes variables r p.loops b (Literal 1) p.own.1 below in
+      let c = below_is sizes variables r p.loops p.multiples p.positive b (Literal 1) p.own.1 below in
       stands_by sizes variables (Binary Sum a b) a
       (nothing_added (exact sizes variables a) (exact sizes variables b) c.at c.count c.column_is c.length_is c.below) (λ h. h.1) (λ h. h.1) p.own.0;
   small = left_small Sum a b;
   literals = λ h. h.0;
+}
+
+-- ---- the lesser of what stays below a length and of its last number
+not_past : (A L N : ℤ) (a n : ℕ) → A ≡ pos a → N ≡ pos n → a < n → L ≡ N -ℤ pos 1 → A ≡ int_min A L
+not_past A L N a n e f lt g = rw (g, e, f) (omega (arith, ints, clamps))
+
+past_not : (A L N : ℤ) (a n : ℕ) → A ≡ pos a → N ≡ pos n → a < n → L ≡ N -ℤ pos 1 → A ≡ int_min L A
+past_not A L N a n e f lt g = rw (g, e, f) (omega (arith, ints, clamps))
+
+-- the length that ends with the last number
+record IsEndOf (r : PlainRanges) (e last : Expression) : Type 0 where
+  length : Expression
+  below : stays_below r e length ≡ true
+  last_is : (sizes variables : List ℕ) → exact sizes variables last ≡ exact sizes variables length -ℤ pos 1
+
+end_of : (r : PlainRanges) (e last : Expression) → is_at_most r e last ≡ true → IsEndOf r e last
+end_of r e (Literal m) h = go (literal_sum m 1) refl h
+  where
+    go : (n : Option Expression) → literal_sum m 1 ≡ n → is_passed (λ n. stays_below r e n) n ≡ true → IsEndOf r e (Literal m)
+    go (Some n) is passed = record { length = n; below = passed; last_is = λ sizes variables. let value = sum_is sizes variables m 1 n is in omega (arith, ints) }
+    go None is passed = absurd (cc passed)
+end_of r e (Binary Difference n one) h =
+    let parts = and_parts (is_number 1 one) (stays_below r e n) h in
+    record { length = n; below = parts.1; last_is = λ sizes variables. ap (λ z. exact sizes variables n -ℤ z) (sym (number_value sizes variables 1 one parts.0)) }
+end_of r e _ h = absurd (cc h)
+
+at_most_moved : (r : PlainRanges) (a b : Expression) → is_at_most r a b ≡ true → IsMoved r (Binary Least a b) a
+at_most_moved r a b h = record {
+  stands = λ sizes variables p.
+      let f = end_of r a b h in
+      let c = below_is sizes variables r p.loops p.multiples p.positive a f.length p.own.0 f.below in
+      stands_by sizes variables (Binary Least a b) a
+      (not_past (exact sizes variables a) (exact sizes variables b) (exact sizes variables f.length) c.at c.count c.column_is c.length_is c.below (f.last_is sizes variables))
+      (λ h. h.1) (λ h. h.1) p.own.0;
+  small = left_small Least a b;
+  literals = λ h. h.0;
+}
+
+most_at_moved : (r : PlainRanges) (a b : Expression) → is_at_most r b a ≡ true → IsMoved r (Binary Least a b) b
+most_at_moved r a b h = record {
+  stands = λ sizes variables p.
+      let f = end_of r b a h in
+      let c = below_is sizes variables r p.loops p.multiples p.positive b f.length p.own.1 f.below in
+      stands_by sizes variables (Binary Least a b) b
+      (past_not (exact sizes variables b) (exact sizes variables a) (exact sizes variables f.length) c.at c.count c.column_is c.length_is c.below (f.last_is sizes variables))
+      (λ h. h.2) (λ h. h.2) p.own.1;
+  small = right_small Least a b;
+  literals = λ h. h.1;
 }
 
 -- ---- the laws as they are found
@@ -581,11 +629,17 @@ module _ (r : PlainRanges) where
   product_found a b false true h e = second_nothing r a b e
   product_found a b false false h e = tt
 
+  least_found : (a b : Expression) (s t : Bool) → is_at_most r a b ≡ s → is_at_most r b a ≡ t → IfMoved r (Binary Least a b) (if s then Some a else (if t then Some b else None))
+  least_found a b true t h e = at_most_moved r a b h
+  least_found a b false true h e = most_at_moved r a b e
+  least_found a b false false h e = tt
+
   part_found : (o : Operation) (a b : Expression) → IfMoved r (Binary o a b) (part_of r o a b)
   part_found Sum a b = sum_found a b (stays_below r b (Literal 1)) refl
   part_found Product a b = product_found a b (stays_below r a (Literal 1)) (stays_below r b (Literal 1)) refl refl
   part_found Quotient a b = quotient_found a b (stays_below r a b) refl
   part_found Remainder a b = remainder_found a b (stays_below r a b) refl
+  part_found Least a b = least_found a b (is_at_most r a b) (is_at_most r b a) refl refl
   part_found _ a b = tt
 
   -- ---- each operation, from the leaves up
@@ -594,7 +648,7 @@ module _ (r : PlainRanges) where
 
   then_moved : (e f g : Expression) → ((sizes variables : List ℕ) → IsPoint r sizes variables e → StandsFor sizes variables e f) → IsNoLarger e f → (HasWordLiterals e → HasWordLiterals f) → IsMoved r f g → IsMoved r e g
   then_moved e f g stands small literals x = record {
-    stands = λ sizes variables p. let s = stands sizes variables p in stands_then sizes variables e f g s (x.stands sizes variables (record { loops = p.loops; multiples = p.multiples; own = s.own }));
+    stands = λ sizes variables p. let s = stands sizes variables p in stands_then sizes variables e f g s (x.stands sizes variables (record { loops = p.loops; multiples = p.multiples; positive = p.positive; own = s.own }));
     small = then_small e f g small x.small;
     literals = λ h. x.literals (literals h);
   }
@@ -606,7 +660,7 @@ module _ (r : PlainRanges) where
   operation_moved : (o : Operation) (a b c d : Expression) → IsMoved r a c → IsMoved r b d → IsMoved r (Binary o a b) (parted_operation r o c d)
   operation_moved o a b c d x y =
       then_moved (Binary o a b) (Binary o c d) (parted_operation r o c d)
-      (λ sizes variables p. stands_joined sizes variables o a b c d (x.stands sizes variables (record { loops = p.loops; multiples = p.multiples; own = p.own.0 })) (y.stands sizes variables (record { loops = p.loops; multiples = p.multiples; own = p.own.1 })))
+      (λ sizes variables p. stands_joined sizes variables o a b c d (x.stands sizes variables (record { loops = p.loops; multiples = p.multiples; positive = p.positive; own = p.own.0 })) (y.stands sizes variables (record { loops = p.loops; multiples = p.multiples; positive = p.positive; own = p.own.1 })))
       (joined_small o a b c d x.small y.small)
       (λ h. (x.literals h.0, y.literals h.1))
       (found_or_itself (Binary o c d) (part_of r o c d) (part_found o c d))

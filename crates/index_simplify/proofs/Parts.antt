@@ -84,7 +84,7 @@ left_small o a b = record {
   names = λ v s h. (and_parts (names_are v s a) (names_are v s b) h).0;
 }
 
-right_small : (o : Operation) (a b : Expression) → IsNoLarger (Binary o a b) b
+pub right_small : (o : Operation) (a b : Expression) → IsNoLarger (Binary o a b) b
 right_small o a b = record {
   nodes = omega arith;
   height = omega arith;

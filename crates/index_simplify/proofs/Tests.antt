@@ -1,19 +1,19 @@
 -- What the tests on expressions mean for their values.
 use Rattle.std.proofs.Common.{◌≡◌, ℕ, zero, suc, ℤ, pos, negsuc, ◌+◌, ◌*◌, ◌/◌, ◌%◌, ◌<◌, ◌≤◌, ◌+ℤ◌, ◌*ℤ◌, min, max, true, false, Option, Some, None, List, refl, sym, ap, ◌∙◌, subst, arith}
-use Rattle.std.specs.Prelude.{◌==◌, ◌&&◌, ◌<ℤ◌, nat_lt, slice_get, slice_index, unsigned_abs, int_div, int_rem}
+use Rattle.std.specs.Prelude.{◌==◌, ◌&&◌, ◌<ℤ◌, nat_lt, is_some, slice_get, slice_index, unsigned_abs, int_div, int_rem}
 use Rattle.std.proofs.Common.{inl, inr}
 use Rattle.std.proofs.lemmas.Bool.{and_parts, or_cases, eqb-true, ltb-true, leb-true}
 use Rattle.std.proofs.lemmas.Int.{ints, clamps, quot-rem}
 use Rattle.std.proofs.lemmas.Nat.{div-mul-add, mod-mul-add}
-use Rattle.std.proofs.Math.Nat.{div-add-mod, mul_assoc, mul_comm}
+use Rattle.std.proofs.Math.Nat.{div-add-mod, mul_assoc, mul_comm, mul-pos}
 use Rattle.index_expr.specs.declared.operation.Operation.{Operation}
 use Rattle.index_expr.specs.declared.operation.Operation.TheVariants.{Sum, Difference, Product, Quotient, Remainder, Least, Greatest}
 use Rattle.index_expr.specs.Expression.{Expression, Variable, Literal, Size, Binary}
 use Rattle.index_expr.specs.Values.{operate, exact}
 use Rattle.index_simplify.specs.PlainRanges.{PlainRanges}
-use Rattle.index_simplify.specs.Tests.{same_operation, same_variable, is_number, same_size, same, is_above, is_at_least, is_no_longer, is_known_within, is_loop_within, is_below, is_count, is_zero_beside, is_cell, is_quotient, is_rounded, are_parts, is_known_multiple, is_multiple, is_part_of, is_base, is_part_base, is_whole_size, is_scaled_size}
+use Rattle.index_simplify.specs.Tests.{same_operation, same_variable, is_number, same_size, same, is_above, is_at_least, is_no_longer, is_known_within, is_loop_within, is_below, is_count, is_zero_beside, is_cell, is_quotient, is_rounded, are_parts, is_known_multiple, is_multiple, is_positive, is_part_of, is_base, is_part_base, is_whole_size, is_scaled_size}
 use Rattle.index_simplify.specs.Laws.{first_part, second_part, scaled}
-use Rattle.index_simplify.specs.Ranges.{AreBelowLengths, AreMultiples, AreWithin}
+use Rattle.index_simplify.specs.Ranges.{AreBelowLengths, AreMultiples, ArePositive, AreWithin}
 
 pub is_operation : (o p : Operation) → same_operation o p ≡ true → o ≡ p
 is_operation Sum Sum e = refl
@@ -209,6 +209,60 @@ module _ (sizes variables : List ℕ) where
   -- a multiple is its divisor times what it is over it
   whole : (s d : ℕ) → s % d ≡ 0 → d * (s / d) ≡ s
   whole s d e = let same = div-add-mod s d in omega arith
+
+  -- its value is a number above 0
+  abbrev pub IsPositive : Expression → Type 0
+  IsPositive e = (v : ℕ) × (exact sizes variables e ≡ pos v) × (0 < v)
+
+  module _ (r : PlainRanges) (all : AreMultiples r sizes) (some : ArePositive r sizes) where
+    known_positive : (k : ℕ) (known : Option ℕ) → slice_get r.multiples k ≡ known → is_some known ≡ true → 0 < slice_index sizes k
+    known_positive k (Some m) at h = some k m at
+    known_positive k None at h = absurd (cc h)
+
+    part_positive : (s d : ℕ) → s % d ≡ 0 → 0 < s → 0 < s / d
+    part_positive s d e lt = go (s / d) (whole s d e)
+      where
+        go : (q : ℕ) → d * q ≡ s → 0 < q
+        go zero f = absurd (omega arith)
+        go (suc q) f = omega arith
+
+    quotient_from : (S D : ℤ) (s d : ℕ) → S ≡ pos s → D ≡ pos d → int_div S D ≡ pos (s / d)
+    quotient_from S D s d e f = rw (e, f) refl
+
+    multiple_positive : (size d : Expression) → is_multiple r size d ≡ true → IsPositive (Binary Quotient size d)
+    multiple_positive (Size k) d h =
+        let found = multiple_value r k d (slice_get r.multiples k) all refl h in
+        let lt = multiple_known k (slice_get r.multiples k) d refl h in
+        (slice_index sizes k / found.0, quotient_from (pos (slice_index sizes k)) (exact sizes variables d) (slice_index sizes k) found.0 refl found.1, part_positive (slice_index sizes k) found.0 found.2 lt)
+      where
+        multiple_known : (k : ℕ) (known : Option ℕ) (d : Expression) → slice_get r.multiples k ≡ known → is_known_multiple known d ≡ true → 0 < slice_index sizes k
+        multiple_known k (Some m) d at h = some k m at
+        multiple_known k None d at h = absurd (cc h)
+    multiple_positive (Variable k l g) d h = absurd (cc h)
+    multiple_positive (Literal n) d h = absurd (cc h)
+    multiple_positive (Binary o a b) d h = absurd (cc h)
+
+    sum_from : (A B : ℤ) (a b : ℕ) → A ≡ pos a → B ≡ pos b → A +ℤ B ≡ pos (a + b)
+    sum_from A B a b e f = rw (e, f) refl
+
+    product_from : (A B : ℤ) (a b : ℕ) → A ≡ pos a → B ≡ pos b → A *ℤ B ≡ pos (a * b)
+    product_from A B a b e f = rw (e, f) refl
+
+    pub positive_value : (e : Expression) → is_positive r e ≡ true → IsPositive e
+    positive_value (Literal n) h = (n, refl, ltb-true 0 n h)
+    positive_value (Size k) h = (slice_index sizes k, refl, known_positive k (slice_get r.multiples k) refl h)
+    positive_value (Binary Quotient size d) h = multiple_positive size d h
+    positive_value (Binary Sum a b) h =
+        let parts = and_parts (is_positive r a) (is_positive r b) h in
+        let x = positive_value a parts.0 in
+        let y = positive_value b parts.1 in
+        (x.0 + y.0, sum_from (exact sizes variables a) (exact sizes variables b) x.0 y.0 x.1 y.1, (let lt = x.2 in omega arith))
+    positive_value (Binary Product a b) h =
+        let parts = and_parts (is_positive r a) (is_positive r b) h in
+        let x = positive_value a parts.0 in
+        let y = positive_value b parts.1 in
+        (x.0 * y.0, product_from (exact sizes variables a) (exact sizes variables b) x.0 y.0 x.1 y.1, mul-pos x.2 y.2)
+    positive_value _ h = absurd (cc h)
 
   whole_from : (S D C : ℤ) (s d : ℕ) → S ≡ pos s → D ≡ pos d → C ≡ D → s % d ≡ 0 → S ≡ C *ℤ int_div S D
   whole_from S D C s d a b c e = rw (c, a, b) (ap pos (sym (whole s d e)))

@@ -1,9 +1,10 @@
 -- Which expressions stay below a length.
-use Rattle.std.specs.Prelude.{ℕ, ◌/◌, ◌&&◌, ◌||◌, nat_lt, if◌then◌else◌, Bool, true, false, is_some, Option, Some, None, option_and_then, slice_get}
-use Rattle.index_expr.specs.declared.operation.Operation.TheVariants.{Sum, Product, Quotient, Remainder}
+use Rattle.std.specs.Prelude.{ℕ, ◌+◌, ◌/◌, ◌&&◌, ◌||◌, nat_lt, if◌then◌else◌, Bool, false, is_some, Option, Some, None, option_map, slice_get}
+use Rattle.index_expr.specs.declared.operation.Operation.TheVariants.{Sum, Difference, Product, Quotient, Remainder, Greatest}
 use Rattle.index_expr.specs.Expression.{Expression, Variable, Literal, Binary}
 use Rattle.index_simplify.specs.PlainRanges.{PlainRanges}
-use Rattle.index_simplify.specs.Tests.{is_above, is_at_least, is_no_longer, is_below, is_count}
+use Rattle.index_simplify.specs.Literals.{word}
+use Rattle.index_simplify.specs.Tests.{is_number, is_above, is_at_least, is_no_longer, is_below, is_count, is_positive}
 use Rattle.index_simplify.specs.Factors.{over}
 
 -- nothing is taken away in it, as far as three operations deep tell
@@ -54,7 +55,38 @@ is_sum_below r (Binary Product row width) column n =
     is_passed (λ rows. is_digit_below r row rows) (rows_within r width column n)
 is_sum_below r _ column n = false
 
--- one of these, or the cell of a row and a column each of which is one
+-- the sum of two numbers, where it is a word
+abbrev pub literal_sum : ℕ → ℕ → Option Expression
+literal_sum m n = option_map Literal (word (m + n))
+
+-- so many more than a sum, where a number may stand first
+abbrev pub longer_sum : (first rest : Expression) → ℕ → Option Expression
+longer_sum (Literal m) rest n = option_map (λ number. Binary Sum number rest) (literal_sum m n)
+longer_sum first rest n = Some (Binary Sum (Literal n) (Binary Sum first rest))
+
+-- so many more than a length, as lengths are spelled: with their number first
+abbrev pub longer : (length : Expression) → ℕ → Option Expression
+longer (Literal m) n = literal_sum m n
+longer (Binary Sum first rest) n = longer_sum first rest n
+longer e n = Some (Binary Sum (Literal n) e)
+
+-- what e is to stay below for max(e, m) - m to stay below a length: m more than it. The least value
+-- is 0, so the length has to be at least 1
+abbrev pub length_before : PlainRanges → (least taken length : Expression) → Option Expression
+length_before r (Literal m) taken n =
+    if is_number m taken && is_positive r n then longer n m else None
+length_before r _ taken n = None
+
+-- one of these, the cell of a row and a column each of which is one, or max(e, m) - m where e stays
+-- below m more
 abbrev pub stays_below : PlainRanges → Expression → (length : Expression) → Bool
 stays_below r (Binary Sum begin column) n = is_sum_below r begin column n
+stays_below r (Binary Difference (Binary Greatest e least) taken) n =
+    is_passed (λ before. stays_below r e before) (length_before r least taken n)
 stays_below r e n = is_digit_below r e n
+
+-- it stays below the length whose last number this is
+abbrev pub is_at_most : PlainRanges → Expression → (last : Expression) → Bool
+is_at_most r e (Literal m) = is_passed (λ n. stays_below r e n) (literal_sum m 1)
+is_at_most r e (Binary Difference n one) = is_number 1 one && stays_below r e n
+is_at_most r e _ = false

@@ -1,13 +1,13 @@
 -- The laws of what stays below a length, and of cells whose rows are cut into parts.
 use Rattle.std.specs.Prelude.{◌&&◌, ◌||◌, if◌then◌else◌, Bool, true, false, unwrap_or, Option, Some, None, option_and_then, option_map}
 use Rattle.index_expr.specs.declared.operation.Operation.{Operation}
-use Rattle.index_expr.specs.declared.operation.Operation.TheVariants.{Sum, Product, Quotient, Remainder}
+use Rattle.index_expr.specs.declared.operation.Operation.TheVariants.{Sum, Product, Quotient, Remainder, Least}
 use Rattle.index_expr.specs.Expression.{Expression, Variable, Literal, Size, Binary}
 use Rattle.index_simplify.specs.PlainRanges.{PlainRanges}
 use Rattle.index_simplify.specs.Tests.{same}
 use Rattle.index_simplify.specs.Laws.{first_part}
 use Rattle.index_simplify.specs.Factors.{over}
-use Rattle.index_simplify.specs.Below.{is_natural, stays_below}
+use Rattle.index_simplify.specs.Below.{is_natural, stays_below, is_at_most}
 
 -- the one is no higher than the other, as far as their parts in turn tell
 abbrev pub is_no_higher : Expression → Expression → Bool
@@ -124,12 +124,17 @@ abbrev pub product : PlainRanges → (a b : Expression) → Option Expression
 product r a b =
     if stays_below r a (Literal 1) || stays_below r b (Literal 1) then Some (Literal 0) else None
 
+-- the lesser of what stays below n and of n - 1 is the first
+abbrev pub least : PlainRanges → (a b : Expression) → Option Expression
+least r a b = if is_at_most r a b then Some a else (if is_at_most r b a then Some b else None)
+
 -- what one of the laws leaves of an operation
 abbrev pub part_of : PlainRanges → Operation → (a b : Expression) → Option Expression
 part_of r Sum a b = sum r a b
 part_of r Product a b = product r a b
 part_of r Quotient a b = quotient r a b
 part_of r Remainder a b = remainder r a b
+part_of r Least a b = least r a b
 part_of r _ a b = None
 
 -- what one of the laws leaves of an operation; itself where none does

@@ -1,5 +1,5 @@
 -- The points of ranges.
-use Rattle.std.specs.Prelude.{ℕ, ◌≡◌, ◌≤◌, ◌%◌, ◌<ℤ◌, pos, List, Some, slice_get, slice_index}
+use Rattle.std.specs.Prelude.{ℕ, ◌≡◌, ◌<◌, ◌≤◌, ◌%◌, ◌<ℤ◌, pos, List, Some, slice_get, slice_index}
 use Rattle.index_expr.specs.Expression.{Expression, Variable, Literal, Size, Binary}
 use Rattle.index_expr.specs.Values.{exact}
 use Rattle.index_simplify.specs.PlainRanges.{PlainRanges}
@@ -14,6 +14,10 @@ AreBelowLengths r sizes variables =
 abbrev pub AreMultiples : PlainRanges → (sizes : List ℕ) → Type 0
 AreMultiples r sizes = (k m : ℕ) → slice_get r.multiples k ≡ Some m → slice_index sizes k % m ≡ 0
 
+-- each size is at least 1
+abbrev pub ArePositive : PlainRanges → (sizes : List ℕ) → Type 0
+ArePositive r sizes = (k m : ℕ) → slice_get r.multiples k ≡ Some m → 0 < slice_index sizes k
+
 -- each variable of the expression lies within the range that it carries
 abbrev pub AreWithin : (variables : List ℕ) → Expression → Type 0
 AreWithin variables (Variable k l g) = (l ≤ slice_index variables k) × (slice_index variables k ≤ g)
@@ -25,4 +29,5 @@ AreWithin variables (Binary o a b) = AreWithin variables a × AreWithin variable
 pub record IsPoint (r : PlainRanges) (sizes variables : List ℕ) (e : Expression) : Type 0 where
   pub loops : AreBelowLengths r sizes variables
   pub multiples : AreMultiples r sizes
+  pub positive : ArePositive r sizes
   pub own : AreWithin variables e

@@ -1,5 +1,5 @@
 -- Tests on index expressions.
-use Rattle.std.specs.Prelude.{ℕ, zero, suc, ◌==◌, ◌%◌, ◌&&◌, ◌||◌, nat_lt, nat_le, Bool, true, false, Option, Some, None, slice_get}
+use Rattle.std.specs.Prelude.{ℕ, zero, suc, ◌==◌, ◌%◌, ◌&&◌, ◌||◌, nat_lt, nat_le, Bool, true, false, is_some, Option, Some, None, slice_get}
 use Rattle.index_expr.specs.declared.operation.Operation.{Operation}
 use Rattle.index_expr.specs.declared.operation.Operation.TheVariants.{Sum, Difference, Product, Quotient, Remainder, Least, Greatest}
 use Rattle.index_expr.specs.Expression.{Expression, Variable, Literal, Size, Binary}
@@ -82,6 +82,16 @@ is_multiple_at r k n = is_known_multiple (slice_get r.multiples k) n
 abbrev pub is_multiple : PlainRanges → (size divisor : Expression) → Bool
 is_multiple r (Size k) n = is_multiple_at r k n
 is_multiple r _ n = false
+
+-- at least 1: a number above 0, a declared size, one over the number that it is a multiple of, and
+-- a sum or a product of two of these
+abbrev pub is_positive : PlainRanges → Expression → Bool
+is_positive r (Literal n) = nat_lt 0 n
+is_positive r (Size k) = is_some (slice_get r.multiples k)
+is_positive r (Binary Quotient size d) = is_multiple r size d
+is_positive r (Binary Sum a b) = is_positive r a && is_positive r b
+is_positive r (Binary Product a b) = is_positive r a && is_positive r b
+is_positive r _ = false
 
 -- a divisor of this number, and below it
 abbrev pub is_part_of : ℕ → Expression → Bool

@@ -1,13 +1,15 @@
 //! Which expressions stay below a length.
 
-ghost use Rattle.std.specs.Prelude.{◌≡◌, IfOk, option_map};
-ghost use Rattle.index_expr.specs.Expression.{expression_of};
+ghost use Rattle.std.specs.Prelude.{◌≡◌, IfOk, Some, option_map};
+ghost use Rattle.index_expr.specs.declared.operation.Operation.TheVariants as operation;
+ghost use Rattle.index_expr.specs.Expression.{Binary, expression_of};
 ghost use Rattle.index_simplify.specs.Below as spec;
 ghost use Rattle.index_simplify.specs.PlainRanges.{ranges_of};
 
 use crate::factors::over;
 use crate::law::is_natural;
 use crate::ranges::{Ranges, is_above, is_at_least, is_no_longer};
+use crate::same::is_number;
 use index_expr::{Index, Operation};
 use std::alloc::{AllocError, Global};
 
@@ -139,8 +141,70 @@ fn is_sum_below(
     }
 }
 
-/// Whether an expression stays below a length: a variable, one over a divisor, a remainder, or the
-/// cell of a row and a column each of which is one of these.
+// The sum of two numbers, where it is a word.
+fn literal_sum(m: u32, n: u32) -> Option<Index>
+    ensures { option_map expression_of result ≡ spec.literal_sum m n }
+{
+    match m.checked_add(n) {
+        Some(sum) => Some(Index::Literal(sum)),
+        None => None,
+    }
+}
+
+// A copy of an expression behind what stands first in the sum.
+fn behind(alloc: Global, first: Index, rest: &Index) -> Result<Option<Index>, AllocError>
+    ensures { IfOk result (λ e. option_map expression_of e
+        ≡ Some (Binary operation.Sum (expression_of first) (expression_of rest.now))) }
+{
+    let rest = rest.copy(alloc)?;
+    Ok(Some(Index::binary(alloc, Operation::Sum, first, rest)?))
+}
+
+// So many more than a length, as lengths are spelled: with their number first.
+fn longer(alloc: Global, length: &Index, more: u32) -> Result<Option<Index>, AllocError>
+    ensures { IfOk result (λ e. option_map expression_of e
+        ≡ spec.longer (expression_of length.now) more) }
+{
+    match length {
+        Index::Literal(number) => Ok(literal_sum(*number, more)),
+        Index::Binary(Operation::Sum, first, rest) => match &**first {
+            Index::Literal(number) => match literal_sum(*number, more) {
+                Some(first) => behind(alloc, first, rest),
+                None => Ok(None),
+            },
+            _ => behind(alloc, Index::Literal(more), length),
+        },
+        _ => behind(alloc, Index::Literal(more), length),
+    }
+}
+
+// What `e` is to stay below for `max(e, m) - m` to stay below this length: `m` more than it. The
+// least value is 0, so the length has to be at least 1.
+fn length_before(
+    alloc: Global,
+    least: &Index,
+    taken: &Index,
+    length: &Index,
+    ranges: &Ranges,
+) -> Result<Option<Index>, AllocError>
+    ensures { IfOk result (λ e. option_map expression_of e
+        ≡ spec.length_before (ranges_of ranges.now) (expression_of least.now)
+        (expression_of taken.now) (expression_of length.now)) }
+{
+    match least {
+        Index::Literal(number) => {
+            if is_number(*number, taken) && ranges.is_positive(length) {
+                return longer(alloc, length, *number);
+            }
+            Ok(None)
+        }
+        _ => Ok(None),
+    }
+}
+
+/// Whether an expression stays below a length: a variable, one over a divisor, a remainder, the
+/// cell of a row and a column each of which is one of these, or `max(e, m) - m` where `e` stays
+/// below `m` more.
 pub fn stays_below(
     alloc: Global,
     e: &Index,
@@ -155,6 +219,41 @@ pub fn stays_below(
         Index::Binary(Operation::Sum, begin, column) => {
             is_sum_below(alloc, begin, column, length, ranges)
         }
+        Index::Binary(Operation::Difference, past, taken) => match &**past {
+            Index::Binary(Operation::Greatest, e, least) => {
+                match length_before(alloc, least, taken, length, ranges)? {
+                    Some(before) => stays_below(alloc, e, &before, ranges),
+                    None => Ok(false),
+                }
+            }
+            _ => Ok(false),
+        },
         _ => is_digit_below(alloc, e, length, ranges),
+    }
+}
+
+/// Whether an expression stays below the length whose last number this is: a literal, or the length
+/// less 1.
+pub fn is_at_most(
+    alloc: Global,
+    e: &Index,
+    last: &Index,
+    ranges: &Ranges,
+) -> Result<bool, AllocError>
+    ensures { IfOk result (λ b. b
+        ≡ spec.is_at_most (ranges_of ranges.now) (expression_of e.now) (expression_of last.now)) }
+{
+    match last {
+        Index::Literal(number) => match literal_sum(*number, 1) {
+            Some(length) => stays_below(alloc, e, &length, ranges),
+            None => Ok(false),
+        },
+        Index::Binary(Operation::Difference, length, one) => {
+            if !is_number(1, one) {
+                return Ok(false);
+            }
+            stays_below(alloc, e, length, ranges)
+        }
+        _ => Ok(false),
     }
 }

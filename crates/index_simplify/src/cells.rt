@@ -7,7 +7,7 @@ ghost use Rattle.index_simplify.specs.Laws as laws;
 ghost use Rattle.index_simplify.specs.Cells as spec;
 ghost use Rattle.index_simplify.specs.PlainRanges.{ranges_of};
 
-use crate::below::stays_below;
+use crate::below::{is_at_most, stays_below};
 use crate::factors::over;
 use crate::law::is_natural;
 use crate::ranges::Ranges;
@@ -418,6 +418,21 @@ fn remainder(
     }
 }
 
+// What has the value of the lesser of two, where one stays below the length whose last number the
+// other is.
+fn least(alloc: Global, a: &Index, b: &Index, ranges: &Ranges) -> Result<Option<Index>, AllocError>
+    ensures { IfOk result (λ e. option_map expression_of e
+        ≡ spec.least (ranges_of ranges.now) (expression_of a.now) (expression_of b.now)) }
+{
+    if is_at_most(alloc, a, b, ranges)? {
+        return Ok(Some(a.copy(alloc)?));
+    }
+    if is_at_most(alloc, b, a, ranges)? {
+        return Ok(Some(b.copy(alloc)?));
+    }
+    Ok(None)
+}
+
 // The operation on two expressions, by the first of the laws that is of it.
 fn parted_operation(
     alloc: Global,
@@ -435,6 +450,7 @@ fn parted_operation(
         Operation::Product => product(alloc, &a, &b, ranges)?,
         Operation::Quotient => quotient(alloc, &a, &b, ranges)?,
         Operation::Remainder => remainder(alloc, &a, &b, ranges)?,
+        Operation::Least => least(alloc, &a, &b, ranges)?,
         _ => None,
     };
     match found {
@@ -443,8 +459,8 @@ fn parted_operation(
     }
 }
 
-/// An expression with the value of this one, each quotient and each remainder by one of the laws
-/// of what stays below a length, from the leaves up.
+/// An expression with the value of this one, each operation by one of the laws of what stays below
+/// a length, from the leaves up.
 pub fn parted(alloc: Global, index: &Index, ranges: &Ranges) -> Result<Index, AllocError>
     ensures { IfOk result
         (λ e. expression_of e ≡ spec.parted (ranges_of ranges.now) (expression_of index.now)) }

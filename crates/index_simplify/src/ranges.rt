@@ -6,7 +6,7 @@ ghost use Rattle.index_simplify.specs.Tests as spec;
 ghost use Rattle.index_simplify.specs.PlainRanges.{ranges_of};
 
 use crate::same::{is_number, same};
-use index_expr::Index;
+use index_expr::{Index, Operation};
 
 /// What is known of loops and sizes at a place, besides the ranges that variables carry.
 #[derive(Drop)]
@@ -67,6 +67,22 @@ impl Ranges {
         match size {
             Index::Size(number) => self.is_multiple_at(*number, divisor),
             Index::Variable { .. } | Index::Literal(_) | Index::Binary(_, _, _) => false,
+        }
+    }
+
+    /// Whether an expression is at least 1: a number above 0, a declared size, one over the number
+    /// that it is a multiple of, or a sum or a product of two of these.
+    pub fn is_positive(&self, e: &Index) -> bool
+        ensures { result ≡ spec.is_positive (ranges_of self.now) (expression_of e.now) }
+    {
+        match e {
+            Index::Literal(n) => 0 < *n,
+            Index::Size(number) => self.multiples.get(*number as usize).is_some(),
+            Index::Binary(Operation::Quotient, size, divisor) => self.is_multiple(size, divisor),
+            Index::Binary(Operation::Sum | Operation::Product, a, b) => {
+                self.is_positive(a) && self.is_positive(b)
+            }
+            _ => false,
         }
     }
 }

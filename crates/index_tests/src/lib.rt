@@ -12,6 +12,8 @@ mod kinds;
 #[cfg(test)]
 mod layouts;
 #[cfg(test)]
+mod pads;
+#[cfg(test)]
 mod pairs;
 #[cfg(test)]
 mod rows;

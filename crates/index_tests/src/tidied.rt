@@ -233,6 +233,40 @@ const ENDS: [Row; 8] = [
     ),
 ];
 
+// A pad in front: what is read isn't past the last where the loop is no longer than the array and
+// what stands in front of it. Beside a part that may fall below 0 it stays.
+const PADDED: Tree = Tree::Binary(
+    Least,
+    &Tree::Binary(
+        Difference,
+        &Tree::Binary(Greatest, &I, &Tree::Number(1)),
+        &Tree::Number(1),
+    ),
+    &Tree::Binary(Difference, &Tree::Size(0), &Tree::Number(1)),
+);
+
+const PADS: [Row; 3] = [
+    (
+        &[Tree::Binary(Sum, &Tree::Number(1), &Tree::Size(0))],
+        PADDED,
+        "(max(i0, 1) - 1)",
+    ),
+    (
+        &[Tree::Binary(Sum, &Tree::Number(2), &Tree::Size(0))],
+        PADDED,
+        "min((max(i0, 1) - 1), (s0 - 1))",
+    ),
+    (
+        &[Tree::Binary(Sum, &Tree::Number(1), &Tree::Size(0))],
+        Tree::Binary(
+            Sum,
+            &PADDED,
+            &Tree::Binary(Difference, &Tree::Size(0), &Tree::Number(2)),
+        ),
+        "(min((max(i0, 1) - 1), (s0 - 1)) + (s0 - 2))",
+    ),
+];
+
 // A part elsewhere that may fall below 0, or divide by 0.
 const PARTS: [Row; 8] = [
     (
@@ -1133,7 +1167,7 @@ fn indices_with_ids_are_tidied(rt: HostRuntime) -> Result<(), Fail> {
     Ok(())
 }
 
-const TABLES: [&[Row]; 6] = [&CELLS, &ENDS, &PARTS, &BOUNDS, &GREATEST, &WRAPPING];
+const TABLES: [&[Row]; 7] = [&CELLS, &ENDS, &PADS, &PARTS, &BOUNDS, &GREATEST, &WRAPPING];
 
 #[test]
 fn rows_are_tidied(rt: HostRuntime) -> Result<(), Fail> {

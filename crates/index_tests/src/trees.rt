@@ -84,12 +84,21 @@ pub fn simplified_text(
 /// The lengths of the loops around, an expression, and the text of what it is simplified to.
 pub type Row = (&'static [Tree], Tree, &'static str);
 
-/// Whether each row is simplified to its text.
-pub fn are_simplified_in_loops(alloc: Global, rows: &[Row]) -> Result<bool, AllocError> {
+/// Whether each row is simplified to its text, where sizes are multiples of these numbers.
+pub fn are_simplified_in_loops_of(
+    alloc: Global,
+    multiples: &[u32],
+    rows: &[Row],
+) -> Result<bool, AllocError> {
     for (lengths, tree, expected) in rows {
-        if simplified_text(alloc, lengths, &[], tree)?.as_str() != *expected {
+        if simplified_text(alloc, lengths, multiples, tree)?.as_str() != *expected {
             return Ok(false);
         }
     }
     Ok(true)
+}
+
+/// And where nothing is known of sizes.
+pub fn are_simplified_in_loops(alloc: Global, rows: &[Row]) -> Result<bool, AllocError> {
+    are_simplified_in_loops_of(alloc, &[], rows)
 }

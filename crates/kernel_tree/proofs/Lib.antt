@@ -20,13 +20,9 @@ pub mod Chunks
 pub mod Releases
 pub mod Rounds
 pub mod Rows
-pub mod WorkedKernels
 pub mod Scheduled
 pub mod Histories
 pub mod Totals
 pub mod Alike
 pub mod Leading
 pub mod Meets
-pub mod WorkedAlike
-pub mod WorkedText
-pub mod WorkedRuns

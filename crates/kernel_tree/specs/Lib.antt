@@ -6,6 +6,7 @@ pub mod Tree
 pub mod Kernels
 pub mod Launch
 pub mod Numbering
+pub mod Strides
 pub mod Item
 pub mod Device
 pub mod Faults
@@ -24,10 +25,6 @@ pub mod Chunks
 pub mod Releases
 pub mod Rounds
 pub mod Meets
-pub mod Worked
-pub mod WorkedAlike
 pub mod Pieces
 pub mod KernelText
-pub mod WorkedText
-pub mod WorkedRuns
 pub mod Blocks

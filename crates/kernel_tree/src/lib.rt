@@ -6,4 +6,3 @@ pub mod events;
 pub mod launches;
 pub mod laws;
 pub mod tree;
-pub mod worked;

@@ -1,5 +1,5 @@
 -- The names of a typed term's lowered term suffice.
-use Rattle.std.proofs.Common.{arith, ◌≡◌, ℕ, zero, suc, ◌++◌, Bool, true, false, List, [], ◌∷◌, Some, refl, sym, ap, ◌∙◌, subst, inl, inr}
+use Rattle.std.proofs.Common.{arith, ◌≡◌, ℕ, zero, suc, ◌++◌, Bool, true, false, List, [], ◌∷◌, Some, refl, sym, subst, inl, inr}
 use Rattle.std.proofs.lemmas.Bool.Decides.{nat_tests}
 use Rattle.std.specs.Prelude.{slice_get, if◌then◌else◌, nat_eq}
 use Rattle.scalar_ops.specs.declared.op.Op.{Op}
@@ -16,14 +16,14 @@ use Rattle.lift_tree.specs.Types.{PlainTy}
 use Rattle.lift_tree.specs.Typing.{Declared, IsNumeric, OperatorRow}
 use Rattle.lift_tree.specs.Annotations.{Annotation, Leaf, One, Two, Three, type_in, Annotates}
 use Rattle.lift_tree.proofs.Layouts.{layout_result}
-use Rattle.lift_ir.specs.Types.{Ty, PairOf, IsPart}
+use Rattle.lift_ir.specs.Types.{Ty, IsPart}
 use Rattle.lift_ir.specs.Terms.{LoadSet, Skip, Take, TakeFour, Each, Term, push}
 use Rattle.lift_ir.specs.AtLaunch.{ty_at}
 use Rattle.lift_ir.specs.Loads.{covers, all, none, held_scalars, IsHeld, AllHeld, AreLetsHeld, LoadsSuffice}
 use Rattle.lift_ir.specs.Lowering.{Place, Written, Argument, Element, element_ty, is_element, element_of, Lowered, is_vector, divided, applied, all_scalars, reached, merged, named, value_place, lower_let, placed_element, lower}
 use Rattle.lift_ir.specs.Lowerable.{HoldsNoScalar, IsElementTerm, IsStaged, IsLowerable}
 use Rattle.lift_ir.proofs.Reshaped.{through_layout}
-use Rattle.lift_ir.proofs.Typed.{element_same, told, numeric_element, operator_element}
+use Rattle.lift_ir.proofs.Typed.{told, numeric_element, operator_element}
 
 -- the pair choices of an element's components
 abbrev IsPartOf : PlainTy → List Bool → Type 0

@@ -45,17 +45,25 @@ abbrev pub outer_of : PlainTy → List Monomial
 outer_of (types.ArrayOf a n) = n
 outer_of _ = []
 
--- the layout of a form of type a over an operand of type b, its lengths polynomials; a default for
--- forms that are no layouts
+-- the layout of a form of type a over an operand of type b, its lengths polynomials; a default for a
+-- stride, which is lowered to three layouts, and for forms that are none
 abbrev pub layout_of : UnaryForm → (a b : PlainTy) → Layout (List Monomial)
 layout_of (unary.Layout (layout.Split fs)) a b = Split (inner_of a)
 layout_of (unary.Layout layout.Join) a b = Join (inner_of b)
 layout_of (unary.Layout layout.Reverse) a b = Reverse (outer_of b)
 layout_of (unary.Layout layout.AsVector) a b = Split (constant 4)
 layout_of (unary.Layout layout.AsScalar) a b = Join (constant 4)
+layout_of (unary.Layout layout.Transpose) a b = Transpose
 layout_of (unary.Slide s t) a b = Slide s t
 layout_of (unary.Pad l r) a b = Pad l r (outer_of b)
-layout_of _ a b = Transpose
+layout_of (unary.Layout (layout.Stride fs)) a b = Transpose
+layout_of (unary.Div n) a b = Transpose
+layout_of (unary.Rem n) a b = Transpose
+layout_of unary.First a b = Transpose
+layout_of unary.Second a b = Transpose
+layout_of unary.ToLocal a b = Transpose
+layout_of unary.ToPrivate a b = Transpose
+layout_of unary.Then a b = Transpose
 
 -- the binders' types at a launch
 abbrev pub types_at : (bases : List ℕ) → List PlainTy → ℕ → Ty

@@ -1,6 +1,7 @@
 pub mod Types
 pub mod Layouts
 pub mod Terms
+pub mod Standing
 pub mod Scalars
 pub mod Sources
 pub mod AtLaunch

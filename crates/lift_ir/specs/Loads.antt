@@ -3,6 +3,7 @@ use Rattle.std.specs.Prelude.{◌≡◌, ◌<◌, ◌^◌, ℕ, Bool, true, fals
 use Rattle.lift_ir.specs.Types.{Ty, IsPart, size, IsShort}
 use Rattle.lift_ir.specs.Terms.{LoadSet, Skip, Take, TakeFour, Each, Term, Literal, Bound, Apply, ApplyNumber, ApplyLanes, DivideLanes, Select, Both, Project, Reshape, LetArray, LetElement, Map, Fold, Store, Copy, push}
 use Rattle.lift_ir.specs.Scalars.{by_side}
+use Rattle.lift_ir.specs.Standing.{Standing, stands_for}
 
 -- the scalar at these pair choices is loaded
 abbrev pub covers : LoadSet → List Bool → Bool
@@ -55,13 +56,22 @@ AreLetsHeld h (Project s a) = AreLetsHeld h a
 AreLetsHeld h (LetElement ty v b) = AllHeld h ty v × AreLetsHeld h v × AreLetsHeld (push all h) b
 AreLetsHeld h _ = ⊥
 
+-- in variables are those that bodies name of an element; none of an input, behind a layout, or of a
+-- copy
+abbrev pub held_standing : {A : Type 0} → Standing A (List Bool → Bool)
+held_standing = record {
+  source = λ input. none;
+  both = by_side false;
+  side = λ second x cs. x (second ∷ cs);
+  through = λ y x. none;
+  in_let = λ x. x;
+  copy = λ number space ty. none;
+  nothing = none;
+}
+
 -- which scalars of an argument are in variables
 abbrev pub held_scalars : {A : Type 0} → (ℕ → List Bool → Bool) → Term A → List Bool → Bool
-held_scalars h (Bound v) = h v
-held_scalars h (Both zips a b) = by_side false (held_scalars h a) (held_scalars h b)
-held_scalars h (Project s a) = λ cs. held_scalars h a (s ∷ cs)
-held_scalars h (LetArray v b) = held_scalars (push (held_scalars h v) h) b
-held_scalars h _ = none
+held_scalars h t = stands_for held_standing (λ x. 0) h 0 t
 
 -- what is loaded is what the bodies name
 abbrev pub LoadsSuffice : {A : Type 0} → (ℕ → List Bool → Bool) → Term A → Type 0

@@ -118,7 +118,14 @@ operand_place unary.First Written = Element
 operand_place unary.Second Written = Element
 operand_place unary.ToPrivate p = Written
 operand_place unary.ToLocal p = Written
-operand_place _ p = p
+operand_place unary.First Argument = Argument
+operand_place unary.First Element = Element
+operand_place unary.Second Argument = Argument
+operand_place unary.Second Element = Element
+operand_place (unary.Layout l) p = p
+operand_place (unary.Slide s t) p = p
+operand_place (unary.Pad l r) p = p
+operand_place unary.Then p = p
 
 -- a stride by the factors' product of an array of type b: the rows of that many elements,
 -- transposed and one after another

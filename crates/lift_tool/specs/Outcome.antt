@@ -1,10 +1,10 @@
 -- How a call ends, and why.
 use Rattle.std.specs.Prelude.{◌≡◌, ◌⊎◌, ℕ, List}
-use Rattle.command_line.specs.Requests.{Asks, CommandLine, IsRefused, cost, run}
+use Rattle.command_line.specs.Requests.{Asks, CommandLine, IsRefused, cost, run, run_stages}
 use Rattle.fault_lines.specs.Failure.{Failure, Memory, Words, Write}
-use Rattle.program_runs.specs.Alike.{AreLinesOf}
+use Rattle.program_runs.specs.Alike.{AreLinesOf, IsLineOfSequence}
 use Rattle.program_runs.specs.Costs.{AreCostsOf}
-use Rattle.program_runs.specs.Table.{IsKernelOf, Stops, Takes, Writes, text_at}
+use Rattle.program_runs.specs.Table.{IsKernelOf, IsSequenceOf, Stops, Takes, Writes, text_at}
 use Rattle.lift_tool.specs.Files.{AreTexts, StopsAtFile, Told}
 use Rattle.lift_tool.specs.Request.{command_of, files_of}
 
@@ -12,8 +12,8 @@ use Rattle.lift_tool.specs.Request.{command_of, files_of}
 abbrev pub Answers : CommandLine → List (List ℕ) → List ℕ → Type 0
 Answers request texts text = Writes (command_of request) texts text
 
--- the lines of a run are those of each text that is written for the same files, and those of a cost
--- tell what its runs do
+-- the lines of a run, and the line of runs in order, are those of each text that is written for the
+-- same files; and those of a cost tell what its runs do
 abbrev pub AreLinesOfWritten : CommandLine → List (List ℕ) → (lines : List ℕ) → Type 0
 AreLinesOfWritten (run p s l traced) texts lines =
     (text : List ℕ) → IsKernelOf (text_at texts 0) (text_at texts 1) text
@@ -21,6 +21,9 @@ AreLinesOfWritten (run p s l traced) texts lines =
 AreLinesOfWritten (cost p s l items) texts lines =
     (text : List ℕ) → IsKernelOf (text_at texts 0) (text_at texts 1) text
     → AreCostsOf (text_at texts 0) (text_at texts 2) items text lines
+AreLinesOfWritten (run_stages p s l) texts line =
+    (text : List ℕ) → IsSequenceOf (text_at texts 0) (text_at texts 1) text
+    → IsLineOfSequence (text_at texts 0) (text_at texts 2) text line
 AreLinesOfWritten _ texts lines = Unit {0}
 
 -- the words ask for this, and its files may have texts that are so

@@ -36,6 +36,7 @@ ghost use Rattle.lift_tool.specs.Outcome.{
 ghost use Rattle.lift_tool.specs.Request.{files_of};
 
 mod files;
+mod host;
 mod requests;
 
 use command_line::read_words;
@@ -43,9 +44,10 @@ pub use compilation::{Compiled, CompiledSequence, compile_sequence, compile_text
 use fault_lines::Failure;
 pub use fault_lines::Refusal;
 pub use files::{LAUNCH_LIMIT, SOURCE_LIMIT};
+pub use host::command;
 use lift_io::{Files, Sink, write_whole};
 pub use program_runs::run_launch;
-use program_runs::{one_end, texts_have_costs, texts_run_alike};
+use program_runs::{one_end, sequences_run_alike, texts_have_costs, texts_run_alike};
 pub use program_source::{source_terms, steps_text};
 use requests::answer_of;
 use std::alloc::Global;
@@ -103,8 +105,9 @@ pub fn lift_tool<F: Files, O: Sink, E: Sink>(
         × Appends (O.taken out.old) (O.taken out.new) text)
         × (err.new ≡ err.old) }
 
-    // The lines of a run are those of the text that `compile` writes for the same files, and those
-    // of a cost tell the loads, stores and releases of each of its runs that can't go on.
+    // The lines of a run are those of the text that `compile` writes for the same files, and the
+    // line of runs in order is that of the text that `stages` writes for them. The lines of a cost
+    // tell the loads, stores and releases of each run of the text that can't go on.
     ensures alike { result ≡ 0
         → OnTexts (F.told files.old) (map string_bytes words.now) (λ request texts.
         (lines : List ℕ) × AreLinesOfWritten request texts lines
@@ -167,6 +170,7 @@ pub fn lift_tool<F: Files, O: Sink, E: Sink>(
         → (result ≡ 0) ⊎ ((result ≡ 4) ⊎ (result ≡ 13)) }
 {
     one_end();
+    sequences_run_alike();
     texts_have_costs();
     texts_run_alike();
     match answer(alloc, words, files) {

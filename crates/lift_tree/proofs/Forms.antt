@@ -1,6 +1,6 @@
 -- The value of each form has its row's type.
 use Rattle.std.specs.Prelude.{map}
-use Rattle.std.proofs.Common.{◌≡◌, ℕ, suc, ◌+◌, ◌-◌, ◌*◌, ◌/◌, ◌^◌, ◌<◌, ◌≤◌, List, [], ◌∷◌, length, refl, sym, ap, ◌∙◌, subst, arith, pos, ◌*ℤ◌, ◌≤ℤ◌}
+use Rattle.std.proofs.Common.{◌≡◌, ℕ, suc, ◌+◌, ◌-◌, ◌/◌, ◌^◌, ◌<◌, ◌≤◌, List, [], ◌∷◌, length, refl, sym, ap, ◌∙◌, subst, arith, pos, ◌*ℤ◌, ◌≤ℤ◌}
 use Rattle.std.proofs.lemmas.Int.{ints}
 use Rattle.std.proofs.Math.Nat.{add-div_right}
 use Rattle.scalar_ops.specs.declared.op.Op.{Op}
@@ -16,7 +16,7 @@ use Rattle.lift_tree.specs.declared.term.UnaryForm.{UnaryForm}
 use Rattle.lift_tree.specs.declared.term.UnaryForm.TheVariants.{Div, Rem, First, Second, Layout, Slide, Pad, ToLocal, ToPrivate, Then}
 use Rattle.lift_tree.specs.declared.term.BinaryForm.{BinaryForm}
 use Rattle.lift_tree.specs.declared.term.BinaryForm.TheVariants as binary
-use Rattle.lift_tree.specs.Values.{Value, Word, Both, Nil, More, array, members, word, first, second}
+use Rattle.lift_tree.specs.Values.{Value, Word, Both, array, members, word, first, second}
 use Rattle.lift_tree.specs.Lists.{Every, fold_left, zip_with, pieces, pieces_that_fit, padded}
 use Rattle.lift_tree.specs.Meaning.{World, on_lanes, array_of_rows, unary_value, binary_value, scalar_op}
 use Rattle.lift_tree.specs.Types.{PlainTy, U32, U32x4, PairOf, ArrayOf, IsNumber, IsVector, HasType, IsFormed}

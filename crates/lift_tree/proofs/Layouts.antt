@@ -1,5 +1,5 @@
 -- Layouts, case by case: of what type a layout's operand and its result are, and its value.
-use Rattle.std.proofs.Common.{◌≡◌, ℕ, ◌-◌, ◌*◌, ◌/◌, ◌<◌, ◌≤◌, List, length, refl, sym, ap, ◌∙◌, subst, arith, pos, ℤ, ◌*ℤ◌, ◌≤ℤ◌, inl, inr}
+use Rattle.std.proofs.Common.{◌≡◌, ℕ, ◌*◌, ◌/◌, ◌<◌, ◌≤◌, List, length, refl, sym, ap, ◌∙◌, subst, arith, pos, ℤ, ◌*ℤ◌, ◌≤ℤ◌, inl, inr}
 use Rattle.std.specs.Prelude.{reverse, map, ◌⊎◌}
 use Rattle.std.proofs.lemmas.List.{length-reverse}
 use Rattle.std.proofs.lemmas.Int.{ints}
@@ -19,7 +19,7 @@ use Rattle.lift_tree.specs.Typing.{Declared, LayoutRow, IsAdmissible, constant}
 use Rattle.lift_tree.specs.Limits.{components, ArrayFits, LayoutFits, LengthsFit}
 use Rattle.lift_tree.proofs.Members.{members-array, length-map, every_map, every_to, every_and, every-concat, length-pieces, pieces_long, every-pieces, length-columns, columns_long, every-columns, every-reverse, length-strided, every-strided}
 use Rattle.lift_tree.proofs.Sizes.{number_at, value-constant, value-of_monomial, value-quotient, product_value}
-use Rattle.lift_tree.proofs.LengthsFit.{divisor_fits, quotient_fits, small_fits}
+use Rattle.lift_tree.proofs.LengthsFit.{divisor_fits, quotient_fits}
 use Rattle.lift_tree.proofs.Rows.{concat_long, divided_by, list_has, list_have, quotient_is, rows_has, rows_have, width_is}
 
 pub record IsAnArray (a : PlainTy) : Type 0 where

@@ -6,8 +6,11 @@ pub mod Formed
 pub mod Forms
 pub mod Layouts
 pub mod LengthsFit
+pub mod Linear
 pub mod Members
 pub mod Numbers
+pub mod PieceLengths
+pub mod Quotients
 pub mod Renumbered
 pub mod Replaced
 pub mod Rows

@@ -1,7 +1,7 @@
 //! What is around a node of a term.
 
 ghost use Rattle.std.specs.Prelude.{◌≡◌, ◌&&◌, Bool, List, []};
-ghost use Rattle.lift_tree.specs.Types.{ty_of, is_element};
+ghost use Rattle.lift_tree.specs.Types.{ty_of};
 ghost use Rattle.lift_tree.specs.FixedSizes.{asked, size_fixed};
 ghost use Rattle.lift_tree.specs.Tree.{Tree, tree_of};
 ghost use Rattle.lowered_tree.specs.Kinds.{asks_of, has_rows, is_local, is_of_level, is_over_rows, is_parallel, is_sequential, is_task};

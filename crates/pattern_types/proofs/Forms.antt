@@ -6,8 +6,8 @@ use Rattle.std.proofs.lemmas.Bool.{and_from}
 use Rattle.size_arith.specs.declared.names.Name.{Name}
 use Rattle.size_arith.specs.declared.poly.Monomial.{Monomial}
 use Rattle.size_arith.specs.Polynomial.{is_zero, on, AllDivide, quotient}
-use Rattle.size_arith.specs.Decisions.{is_same}
-use Rattle.size_arith.proofs.Decisions.{decides_same}
+use Rattle.size_arith.specs.Decisions.{is_same, all_divide}
+use Rattle.size_arith.proofs.Decisions.{decides_same, decides_all_divide}
 use Rattle.lift_tree.specs.declared.term.Operator.{Operator}
 use Rattle.lift_tree.specs.declared.term.UnaryForm.{UnaryForm}
 use Rattle.lift_tree.specs.declared.term.BinaryForm.{BinaryForm}
@@ -16,11 +16,10 @@ use Rattle.lift_tree.specs.Types.{PlainTy, U32, U32x4, PairOf, ArrayOf, IsElemen
 use Rattle.lift_tree.specs.Typing.{constant, OperatorRow, BinaryRow, is_lane_operator}
 use Rattle.pattern_types.specs.declared.refusal.Rule.TheVariants as rule
 use Rattle.pattern_types.specs.declared.fault.Fault.{Fault}
-use Rattle.pattern_types.specs.Tests.{exact_quotient, all_divide}
+use Rattle.pattern_types.specs.Tests.{exact_quotient}
 use Rattle.pattern_types.specs.Judged.{unary_row, lanes_row, operator_row, zip_row, reduce_row, binary_row}
 use Rattle.lift_tree.specs.Limits.{ArrayFits, OuterFits, UnaryFits}
 use Rattle.pattern_types.proofs.Table.{IsGood, constant_low}
-use Rattle.pattern_types.proofs.Tried.{decides_all_divide}
 use Rattle.pattern_types.proofs.Judging.{Judges, itself, answers, judges_demand}
 use Rattle.pattern_types.proofs.Fitted.{judges_formed}
 

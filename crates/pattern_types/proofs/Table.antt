@@ -7,8 +7,8 @@ use Rattle.size_arith.specs.declared.names.Name.{Name}
 use Rattle.size_arith.specs.declared.poly.Monomial.{Monomial}
 use Rattle.size_arith.specs.Polynomial.{total, less_powers, on, AllLow, AtMost, AllDivide, quotient}
 use Rattle.size_arith.specs.Shown.{ShownAtLeast}
-use Rattle.size_arith.specs.Decisions.{is_shown, is_same}
-use Rattle.size_arith.proofs.Decisions.{decides_shown, decides_same}
+use Rattle.size_arith.specs.Decisions.{is_shown, is_same, all_divide}
+use Rattle.size_arith.proofs.Decisions.{decides_shown, decides_same, decides_all_divide}
 use Rattle.lift_tree.specs.declared.term.Operator.{Operator}
 use Rattle.lift_tree.specs.declared.term.UnaryForm.{UnaryForm}
 use Rattle.lift_tree.specs.declared.term.BinaryForm.{BinaryForm}
@@ -19,10 +19,9 @@ use Rattle.lift_tree.specs.Limits.{arrays, components}
 use Rattle.pattern_types.specs.declared.refusal.Rule.TheVariants as rule
 use Rattle.pattern_types.specs.declared.refusal.TypeLimit.TheVariants as limit
 use Rattle.pattern_types.specs.declared.fault.Fault.{Fault}
-use Rattle.pattern_types.specs.Tests.{exact_quotient, all_divide, is_same_element}
+use Rattle.pattern_types.specs.Tests.{exact_quotient, is_same_element}
 use Rattle.pattern_types.specs.Judged.{demand, at_most, counted, formed, scalars_judged, binary_row, number_row, numeric_row, lanes_row, operator_row, zip_row, reduce_row}
 use Rattle.pattern_types.proofs.Results.{yes, and_ok, demand_ok}
-use Rattle.pattern_types.proofs.Tried.{decides_all_divide}
 
 -- formed, and each length of a degree of at most 4
 abbrev pub IsGood : List Name → PlainTy → Type 0

@@ -7,7 +7,7 @@ use Rattle.std.proofs.lemmas.Bool.Decides.{nat_tests}
 use Rattle.scalar_ops.specs.declared.op.Op.{Op}
 use Rattle.scalar_ops.specs.declared.op.Op.TheVariants as op
 use Rattle.scalar_ops.specs.Operators.{apply_op, choose}
-use Rattle.kernel_tree.specs.Formula.{Formula, Lanes, Four, Vector, Spread, Vars, word, set_word, vector, set_vector, spread, Number, Variable, Binary, divides, operate, operate_each, four_if, value, lanes_value}
+use Rattle.kernel_tree.specs.Formula.{Formula, Lanes, Four, Vector, Spread, Vars, word, set_word, vector, set_vector, spread, Number, Variable, Binary, divides, operate, operate_each, value, lanes_value}
 use Rattle.kernel_tree.specs.Formula as formula
 use Rattle.kernel_tree.specs.Code.{Code, Assigns, AssignsFour, Performs}
 use Rattle.kernel_tree.specs.Launch.{ids_of}

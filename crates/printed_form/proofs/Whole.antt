@@ -17,7 +17,8 @@ use Rattle.kernel_tree.proofs.Bound.{within_bound}
 use Rattle.kernel_tree.proofs.Confluence.{same_cell-true}
 use Rattle.kernel_tree.proofs.Grouping.{some_items, row_below}
 use Rattle.kernel_tree.proofs.Independent.{as_allowed}
-use Rattle.kernel_tree.proofs.Stride.{turns_of, turn_below, turn_past, turn_owner, owner_turn, owner_has}
+use Rattle.kernel_tree.specs.Strides.{turns_of}
+use Rattle.kernel_tree.proofs.Stride.{turn_below, turn_past, turn_owner, owner_turn, owner_has}
 use Rattle.printed_form.specs.Headline.{output_cell, KeepsHeadline, EveryRunKeeps}
 use Rattle.lift_ir.specs.Types.{Ty, ArrayOf, IsPosition, width, size, component, flat, unflat}
 use Rattle.lift_ir.specs.Terms.{LoadSet, LoadsScalars, Global, GlobalRows, Term, LetArray, Reshape, Map, push, HasType, no_type}

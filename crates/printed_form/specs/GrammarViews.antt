@@ -5,7 +5,7 @@ use Rattle.kernel_tree.specs.Formula.{Formula}
 use Rattle.kernel_tree.specs.Code.{Kernel}
 use Rattle.kernel_tree.specs.Grammar.{is_readable, is_writable, is_shared}
 use Rattle.lift_ir.specs.Fours as fours
-use Rattle.lift_ir.specs.Fours.{Lie, Loose, Whole, InFours}
+use Rattle.lift_ir.specs.Fours.{Lie, Loose}
 use Rattle.printed_form.specs.Counts.{Count}
 use Rattle.printed_form.specs.Views.{Sign, Blank, Held, HeldFour, Read, View}
 use Rattle.printed_form.specs.Sound.{IsGood, variables_of}

@@ -7,6 +7,7 @@ use Rattle.kernel_tree.specs.Grammar.{height, is_constant, is_operator, names_de
 use Rattle.printed_form.specs.Counts.{Count}
 use Rattle.lift_ir.specs.Types.{Shape, Scalar, PairOf, ArrayOf, IsElement, size}
 use Rattle.lift_ir.specs.Layouts.{IsInvertible, Layout, Split, Join, Transpose, Reverse, Slide, Pad}
+use Rattle.lift_ir.specs.Standing.{Standing, stands_for}
 use Rattle.lift_ir.specs.Terms.{Term, Literal, Bound, Source, Apply, ApplyNumber, ApplyLanes, DivideLanes, Select, Both, Project, Reshape, LetArray, LetElement, Map, Fold, Store, Copy, push}
 
 -- how many private variables the kernel declares
@@ -81,15 +82,23 @@ expression_height (Project s a) = expression_height a
 expression_height (LetElement ty v b) = max (expression_height v) (expression_height b)
 expression_height _ = 1
 
+-- a layout stands on those of its operand; no buffer but a copy's stands in a copy, on which none
+-- stands
+abbrev pub stacked_standing : {A : Type 0} → Standing A ℕ
+stacked_standing = record {
+  source = λ input. 0;
+  both = max;
+  side = λ second h. h;
+  through = λ y h. suc h;
+  in_let = λ h. h;
+  copy = λ number space ty. 0;
+  nothing = 0;
+}
+
 -- how many layouts stand one on another over a buffer in an argument, where binders stand at these
 -- heights
 abbrev pub stacked : {A : Type 0} → (ℕ → ℕ) → Term A → ℕ
-stacked g (Bound v) = g v
-stacked g (Both zips a b) = max (stacked g a) (stacked g b)
-stacked g (Project s a) = stacked g a
-stacked g (Reshape l a) = suc (stacked g a)
-stacked g (LetArray v b) = stacked (push (stacked g v) g) b
-stacked g _ = 0
+stacked g t = stands_for stacked_standing (λ x. 0) g 0 t
 
 abbrev mutual
   -- no more layouts than this stand one on another in an argument, nor in the copies in it

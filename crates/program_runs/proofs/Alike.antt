@@ -91,10 +91,10 @@ module _ (c : Device) (s : State) (d : Device) (t : State) (alike : GoesAlike c 
 -- ---- runs that go alike end alike
 
 module _ (schedule : Schedule) (k m : Kernel) (l : Launch) (c : Cells) (rows : List (List ℕ)) (events releases : ℕ) (alike : GoesAlike (device_of k l c) (start_state k c) (device_of m l c) (start_state m c)) (e : EndsUnder schedule k l c rows events releases) where
-  enabled : IsRun (device_of k l c) (start_state k c) e.run
+  pub enabled : IsRun (device_of k l c) (start_state k c) e.run
   enabled = e.scheduled.is_run.enabled
 
-  abbrev ends_alike : LeavesWanted m l c rows (start_state m c) e.run → EndsUnder schedule m l c rows events releases
+  abbrev pub ends_alike : LeavesWanted m l c rows (start_state m c) e.run → EndsUnder schedule m l c rows events releases
   ends_alike leaves =
       let over = alike.stuck e.run enabled e.over in
       record {
@@ -120,10 +120,18 @@ shape_of_rows [] (o ∷ os) count long = absurd (omega (arith, count))
 shape_of_rows (r ∷ rs) [] count long = absurd (omega (arith, count))
 shape_of_rows (r ∷ rs) (o ∷ os) count long = ap₂ (λ x xs. x ∷ xs) (sym (long 0)) (shape_of_rows rs os (omega (arith, count)) (λ a. long (suc a)))
 
-declares_for : (p : Printer) (d : Declared) (local : Option (ℕ × ℕ)) (bases : List ℕ) (t : Tree) (n : Annotation) (l : Launch) (k : Kernel) → PrintsBy p d local bases t n l k → DeclaresFor d local t n k
+pub declares_for : (p : Printer) (d : Declared) (local : Option (ℕ × ℕ)) (bases : List ℕ) (t : Tree) (n : Annotation) (l : Launch) (k : Kernel) → PrintsBy p d local bases t n l k → DeclaresFor d local t n k
 declares_for OfItems d local bases t n l k prints = prints.declares
 declares_for OfGroups d local bases t n l k prints = prints.declares
 declares_for OfGrids d local bases t n l k prints = prints.declares
+
+-- kernels with one term's declarations begin with the same
+pub same_contents : (d : Declared) (local : Option (ℕ × ℕ)) (t : Tree) (n : Annotation) (l : Launch) (k m : Kernel) (c : Cells) → DeclaresFor d local t n k → DeclaresFor d local t n m → SameContents l (start_state k c) (start_state m c)
+same_contents d local t n l k m c a b = record {
+  variables = λ j lt.
+      ap₂ (λ (words vectors : ℕ). record { words = replicate words c.rest; vectors = replicate vectors (spread c.rest) }) (a.variables ∙ sym b.variables) (a.vectors ∙ sym b.vectors);
+  memory = refl;
+}
 
 module _ (one_type : OneType) (rows : TermsAskForRows) (alike : PrintedKernelsGoAlike) (p : PlainProgram) (output : PlainTy) (local : Option (ℕ × ℕ)) (last : TermState) (accepted : IsAccepted p last.tree last.types) (keeps : Keeps (declared_by p) [] p.body last.tree) (typed : Types (declared_by p) [] p.body output)
     (k m : Kernel) (first : PrintsAtAll p local last k) (other : PrintsAtAll p local last m) (meets : MeetsSource p output local last m)
@@ -159,19 +167,11 @@ module _ (one_type : OneType) (rows : TermsAskForRows) (alike : PrintedKernelsGo
   declares : (x : Kernel) → PrintsAtAll p local last x → DeclaresFor (declared_by p) local last.tree last.types x
   declares x prints = declares_for (printer_for last.tree) (declared_by p) local g.bases last.tree last.types g.launch x (prints g.bases g.launch here)
 
-  contents : SameContents g.launch (start_state k cells) (start_state m cells)
-  contents = record {
-    variables = λ j lt.
-        let a = declares k first in
-        let b = declares m other in
-        ap₂ (λ (words vectors : ℕ). record { words = replicate words 0; vectors = replicate vectors (spread 0) }) (a.variables ∙ sym b.variables) (a.vectors ∙ sym b.vectors);
-    memory = refl;
-  }
-
   go_alike : GoesAlike (device_of k g.launch cells) (start_state k cells) (device_of m g.launch cells) (start_state m cells)
   go_alike =
       alike (declared_by p) local last.tree last.types w g.launch k m cells (start_state k cells) (start_state m cells) accepted.legal accepted.copies ok.world here buffers
-      (first g.bases g.launch here) (other g.bases g.launch here) (start_is k g.launch cells) (start_is m g.launch cells) contents
+      (first g.bases g.launch here) (other g.bases g.launch here) (start_is k g.launch cells) (start_is m g.launch cells)
+      (same_contents (declared_by p) local last.tree last.types g.launch k m cells (declares k first) (declares m other))
 
   admits : Admits p output (asks_of local last.tree) w g.launch cells
   admits = record { world = ok.world; launch = ok.launch; sizes = refl; inputs = refl; outputs = long }
@@ -185,33 +185,55 @@ module _ (one_type : OneType) (rows : TermsAskForRows) (alike : PrintedKernelsGo
   traced_as traced = traced_alike g.schedule k m g.launch cells (lists_of output (source_value p w)) events releases go_alike e traced
 
 module _ (one : OneKernel) (one_type : OneType) (rows : TermsAskForRows) (ends : CompilationEndsOnce) (alike : PrintedKernelsGoAlike) (program script launch : List ℕ) (traced : Bool) (lines : List ℕ) (ran : AreRunLines program script launch traced lines) where
-  for_program : (output : PlainTy) (asks : Asks) (text : List ℕ) → IsCompiled program script ran.source output asks text → AreLinesOfText ran.source ran.output text ran.given traced lines
-  for_program output asks text other =
-      let c = ran.compiled in
-      let local = local_fixed script in
-      let lines_are = ran.run in
-      let runs = lines_are.run in
-      let one_end = ends ran.source script (Ok other.last) (Ok c.last) other.legal c.legal in
-      let same_last : other.last ≡ c.last = cc (one_end) in
-      let same_output : output ≡ ran.output = one_type (declared_by ran.source) [] ran.source.body output ran.output other.typed.typed c.typed.typed in
-      let same_kernel : c.kernel ≡ runs.kernel = one lift ran.text c.kernel runs.kernel c.written runs.read in
-      let first = subst (PrintsAtAll ran.source local c.last) same_kernel c.prints in
-      let second = subst (λ (x : TermState). PrintsAtAll ran.source local x other.kernel) same_last other.prints in
-      let meets = subst (λ (a : PlainTy). MeetsSource ran.source a local c.last other.kernel) same_output (subst (λ (x : TermState). MeetsSource ran.source output local x other.kernel) same_last other.meets) in
-      let ok = subst (λ (a : Asks). IsAdmissibleFor ran.source a ran.given) (sym c.asked) (given_is_admissible ran.source (Run ran.asks) launch ran.given refl ran.launch_file) in
-      let e = runs_alike one_type rows alike ran.source ran.output local c.last c.accepted c.keeps c.typed.typed runs.kernel other.kernel first second meets ran.given ok lines_are.events lines_are.releases runs.run in
-      record {
-        events = lines_are.events;
-        releases = lines_are.releases;
-        seen = lines_are.seen;
-        run = record {
-          kernel = other.kernel;
-          read = other.written;
-          run = e;
-          seen_of_it = runs.seen_of_it ∙ traced_as one_type rows alike ran.source ran.output local c.last c.accepted c.keeps c.typed.typed runs.kernel other.kernel first second meets ran.given ok lines_are.events lines_are.releases runs.run traced;
-        };
-        written = lines_are.written;
-      }
+  abbrev local : Option (ℕ × ℕ)
+  local = local_fixed script
+
+  abbrev last : TermState
+  last = ran.compiled.last
+
+  abbrev own : Kernel
+  own = ran.run.run.kernel
+
+  first : PrintsAtAll ran.source local last own
+  first = subst (PrintsAtAll ran.source local last) (one lift ran.text ran.compiled.kernel own ran.compiled.written ran.run.run.read) ran.compiled.prints
+
+  ok : IsAdmissibleFor ran.source (asks_of local last.tree) ran.given
+  ok = subst (λ (a : Asks). IsAdmissibleFor ran.source a ran.given) (sym ran.compiled.asked) (given_is_admissible ran.source (Run ran.asks) launch ran.given refl ran.launch_file)
+
+  module _ (output : PlainTy) (asks : Asks) (text : List ℕ) (other : IsCompiled program script ran.source output asks text) where
+    same_last : other.last ≡ last
+    same_last =
+        let one_end = ends ran.source script (Ok other.last) (Ok last) other.legal ran.compiled.legal in
+        cc (one_end)
+
+    same_output : output ≡ ran.output
+    same_output = one_type (declared_by ran.source) [] ran.source.body output ran.output other.typed.typed ran.compiled.typed.typed
+
+    second : PrintsAtAll ran.source local last other.kernel
+    second = subst (λ (x : TermState). PrintsAtAll ran.source local x other.kernel) same_last other.prints
+
+    meets : MeetsSource ran.source ran.output local last other.kernel
+    meets = subst (λ (a : PlainTy). MeetsSource ran.source a local last other.kernel) same_output (subst (λ (x : TermState). MeetsSource ran.source output local x other.kernel) same_last other.meets)
+
+    abbrev e : RunsAsGiven ran.source ran.output other.kernel ran.given ran.run.events ran.run.releases
+    e =
+        runs_alike one_type rows alike ran.source ran.output local last ran.compiled.accepted ran.compiled.keeps ran.compiled.typed.typed own other.kernel first second meets ran.given ok
+        ran.run.events ran.run.releases ran.run.run.run
+
+    seen_of_both : traced_sights traced own ran.given.launch (begun ran.source ran.output (world_given ran.given)) ran.run.run.run.run
+        ≡ traced_sights traced other.kernel ran.given.launch (begun ran.source ran.output (world_given ran.given)) e.run
+    seen_of_both =
+        traced_as one_type rows alike ran.source ran.output local last ran.compiled.accepted ran.compiled.keeps ran.compiled.typed.typed own other.kernel first second meets ran.given ok
+        ran.run.events ran.run.releases ran.run.run.run traced
+
+    for_program : AreLinesOfText ran.source ran.output text ran.given traced lines
+    for_program = record {
+      events = ran.run.events;
+      releases = ran.run.releases;
+      seen = ran.run.seen;
+      run = record { kernel = other.kernel; read = other.written; run = e; seen_of_it = ran.run.run.seen_of_it ∙ seen_of_both };
+      written = ran.run.written;
+    }
 
   pub lines_alike : (source : PlainProgram) (output : PlainTy) (asks : Asks) (text : List ℕ) → IsCompiled program script source output asks text → AreLinesOf program launch traced text lines
   lines_alike source output asks text other =

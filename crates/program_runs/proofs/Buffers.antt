@@ -1,10 +1,12 @@
 -- The inputs in their buffers.
-use Rattle.std.proofs.Common.{◌≡◌, ◌∙◌, ◌++◌, ◌-◌, ◌≤◌, ◌<◌, ℕ, List, [], ◌∷◌, append_assoc, append-nil, ap, ap₂, arith, drop, get_or, length, map, sym, take}
+use Rattle.std.proofs.Common.{◌≡◌, ◌∙◌, ◌++◌, ◌-◌, ◌≤◌, ◌<◌, ℕ, zero, suc, List, [], ◌∷◌, Some, append_assoc, append-nil, ap, ap₂, arith, drop, get_or, length, map, subst, sym, take}
+use Rattle.std.specs.Prelude.{slice_get}
 use Rattle.std.proofs.lemmas.List.{take_rest}
 use Rattle.size_arith.specs.declared.names.Name.{Name}
 use Rattle.lift_tree.specs.Launches.{buffers_of, lists_of}
 use Rattle.lift_tree.specs.Programs.{input_of}
-use Rattle.lift_tree.specs.Values.{list_of, value_of}
+use Rattle.lift_tree.specs.Types.{HasType, HaveTypes, PlainTy}
+use Rattle.lift_tree.specs.Values.{Value, list_of, nth, value_of}
 use Rattle.lift_tree.specs.InputTypes.{written_of}
 use Rattle.lift_tree.specs.WorkedOut.{worked_out}
 use Rattle.lift_tree.specs.declared.program.Input.{Input}
@@ -52,3 +54,23 @@ pub ruleset holding = (none_held, none_held_of_values)
 -- from no lists on, they are what the buffers hold
 pub held_first : {L : Type 0} (f : L → List ℕ) (names : List Name) (old new : List L) (is js : List Input) (vs ws : List Val) → old ≡ [] → is ≡ js → vs ≡ ws → map f new ≡ map f old ++ held names is vs → map f new ≡ held names js ws
 held_first f names old new is js vs ws none inputs values h = h ∙ ap (λ ls. map f ls ++ held names is vs) none ∙ ap₂ (held names) inputs values
+
+-- ---- one value more
+
+-- its lists stand behind those of the others
+pub buffers_more : (xs : List PlainTy) (vs : List Value) (a : PlainTy) (v : Value) → length xs ≡ length vs → buffers_of (xs ++ a ∷ []) (vs ++ v ∷ []) ≡ buffers_of xs vs ++ lists_of a v
+buffers_more [] [] a v even = append-nil (lists_of a v)
+buffers_more [] (u ∷ vs) a v even = absurd (omega (arith, even))
+buffers_more (x ∷ xs) [] a v even = absurd (omega (arith, even))
+buffers_more (x ∷ xs) (u ∷ vs) a v even =
+    ap (λ z. lists_of x u ++ z) (buffers_more xs vs a v (omega (arith, even))) ∙ sym (append_assoc (lists_of x u) (buffers_of xs vs) (lists_of a v))
+
+-- and it has its type there
+pub types_more : (ys : List ℕ) (xs : List PlainTy) (vs : List Value) (a : PlainTy) (v : Value) → length xs ≡ length vs → HaveTypes ys xs vs → HasType ys a v
+    → (n : ℕ) (b : PlainTy) → slice_get (xs ++ a ∷ []) n ≡ Some b → HasType ys b (nth (vs ++ v ∷ []) n)
+types_more ys [] [] a v even all typed zero b at = let same : a ≡ b = cc in subst (λ z. HasType ys z v) same typed
+types_more ys [] [] a v even all typed (suc n) b at = absurd (cc)
+types_more ys [] (u ∷ vs) a v even all typed n b at = absurd (omega (arith, even))
+types_more ys (x ∷ xs) [] a v even all typed n b at = absurd (omega (arith, even))
+types_more ys (x ∷ xs) (u ∷ vs) a v even all typed zero b at = all zero b at
+types_more ys (x ∷ xs) (u ∷ vs) a v even all typed (suc n) b at = types_more ys xs vs a v (omega (arith, even)) (λ k c. all (suc k) c) typed n b at

@@ -1,7 +1,7 @@
 -- What is said of the texts of a command's files is said of the command.
 use Rattle.std.proofs.Common.{◌≡◌, ◌⊎◌, ℕ, List, Global, inl, subst, sym, Result, Ok, Err}
 use Rattle.std.specs.Prelude.{IfErr, IfOk, Vec}
-use Rattle.fault_lines.specs.Failure.{Failure, Memory}
+use Rattle.fault_lines.specs.Failure.{Memory}
 use Rattle.fault_lines.specs.Shown.{failure_of}
 use Rattle.fault_lines.specs.declared.failure.Failure as code
 use Rattle.program_runs.specs.Table.{Stops, Writes}

@@ -17,14 +17,13 @@ use Rattle.size_arith.specs.Ranges.{sizes_at}
 use Rattle.lift_tree.specs.Launches.{IsAdmissibleLaunch, lists_of}
 use Rattle.lift_tree.specs.Types.{PlainTy}
 use Rattle.lift_tree.specs.Values.{Value}
-use Rattle.printed_form.specs.Headline.{LeavesWanted}
 use Rattle.value_lists.specs.Lists.{list_lengths}
 use Rattle.lowered_tree.specs.Kinds.{asks_of}
 use Rattle.ndrange_device.specs.Outcomes.{EndsUnder, FaultsUnder}
-use Rattle.sequence_runs.specs.Runs.{AllKeep, AreRuns, BeginsWith, IsStageRun, Passes, Stage, StageKeeps, StageRun, left}
+use Rattle.sequence_runs.specs.Runs.{AllKeep, AreRuns, BeginsWith, IsStageRun, Passes, Stage, StageKeeps, StageRun}
 use Rattle.program_runs.specs.Sequences.{begun_from}
-use Rattle.program_runs.proofs.LaidOut.{blank_lengths, row_lengths, rows_are}
-use Rattle.program_runs.proofs.Running.{start_is}
+use Rattle.program_runs.proofs.LaidOut.{blank_lengths}
+use Rattle.program_runs.proofs.Running.{rows_wanted, start_is}
 
 -- ---- rows of lists one behind another
 
@@ -116,7 +115,5 @@ module _ (local : Option (ℕ × ℕ)) (bases : List ℕ) (output : PlainTy) (v 
     -- the last leaves the value's lists
     pub left_at_last : ks ≡ [] → rows ≡ lists_of output v
     left_at_last none =
-        let h : LeavesWanted k.kernel l (from k bases ins) (lists_of output v) (start_state k.kernel (from k bases ins)) e.run =
-        (subst (λ (z : List Stage). KeepOn local bases output v (k ∷ z) ins) none keep (run_so k bases ins l e.run ∷ []) refl (is_run e.run e.scheduled.is_run.enabled, tt, tt)).keeps.leaves in
-        rows_are rows (from k bases ins).outs (lists_of output v) e.left.count e.left.lengths h.shape
-        (λ a i lt. e.left.words a i (let z = row_lengths (lists_of output v) (from k bases ins).outs h.shape a in let n = e.left.lengths a in omega (arith, z, n, lt)) ∙ h.left e.over a i lt)
+        rows_wanted schedule k.kernel l (from k bases ins) rows (lists_of output v) events releases e
+        (subst (λ (z : List Stage). KeepOn local bases output v (k ∷ z) ins) none keep (run_so k bases ins l e.run ∷ []) refl (is_run e.run e.scheduled.is_run.enabled, tt, tt)).keeps.leaves

@@ -12,3 +12,4 @@ pub mod Turns
 pub mod NextKernel
 pub mod Unrefused
 pub mod Alike
+pub mod AlikeInOrder

@@ -52,6 +52,12 @@ start_is k l c = record {
   epochs = λ g f. refl;
 }
 
+-- a run that leaves what is wanted ends with just these rows
+pub rows_wanted : (schedule : Schedule) (k : Kernel) (l : Launch) (c : Cells) (rows want : List (List ℕ)) (events releases : ℕ) (e : EndsUnder schedule k l c rows events releases) → LeavesWanted k l c want (start_state k c) e.run → rows ≡ want
+rows_wanted schedule k l c rows want events releases e h =
+    rows_are rows c.outs want e.left.count e.left.lengths h.shape
+    (λ a i lt. e.left.words a i (let z = row_lengths want c.outs h.shape a in let n = e.left.lengths a in omega (arith, z, n, lt)) ∙ h.left e.over a i lt)
+
 run_as_given : (schedule : Schedule) (k : Kernel) (l m : Launch) (c d : Cells) (rows : List (List ℕ)) (events releases : ℕ) → l ≡ m → c ≡ d → EndsUnder schedule k l c rows events releases → EndsUnder schedule k m d rows events releases
 run_as_given schedule k l m c d rows events releases launch cells e = subst (λ x. EndsUnder schedule k m x rows events releases) cells (subst (λ x. EndsUnder schedule k x c rows events releases) launch e)
 
@@ -99,9 +105,7 @@ module _ (p : PlainProgram) (output : PlainTy) (asks : Asks) (text : List ℕ) (
       -- the run leaves the value's lists
       left : (schedule : Schedule) (rows : List (List ℕ)) (events releases : ℕ) → EndsUnder schedule k g.launch (begun p output (world_given g)) rows events releases → rows ≡ lists_of output (source_value p (world_given g))
       left schedule rows events releases e =
-          let h = leaves e.run e.scheduled.is_run.enabled in
-          rows_are rows (begun p output (world_given g)).outs (lists_of output (source_value p (world_given g))) e.left.count e.left.lengths h.shape
-          (λ a i lt. e.left.words a i (let z = row_lengths (lists_of output (source_value p (world_given g))) (begun p output (world_given g)).outs h.shape a in let n = e.left.lengths a in omega (arith, z, n, lt)) ∙ h.left e.over a i lt)
+          rows_wanted schedule k g.launch (begun p output (world_given g)) rows (lists_of output (source_value p (world_given g))) events releases e (leaves e.run e.scheduled.is_run.enabled)
 
       -- what was made is at the launch, with these cells
       module _ (l : Launch) (c : Cells) (launch : l ≡ g.launch) (cells : c ≡ begun p output (world_given g)) where

@@ -5,6 +5,7 @@ use Rattle.kernel_tree.specs.Code.{Kernel}
 use Rattle.kernel_tree.specs.Device.{IsStart, State, device_of}
 use Rattle.kernel_tree.specs.Launch.{Cells, Launch}
 use Rattle.launch_file.specs.LaunchFile.{Given, IsLaunchFile, Run}
+use Rattle.launch_file.specs.Stages.{GivenInOrder, IsStagesFile}
 use Rattle.lift_tree.specs.Annotations.{Annotation}
 use Rattle.lift_tree.specs.Launches.{Asks}
 use Rattle.lift_tree.specs.Meaning.{World}
@@ -20,8 +21,10 @@ use Rattle.printed_form.specs.Programs.{AreBuffersOf, IsLaunchOf, SameContents}
 use Rattle.program_source.specs.Program.{IsRead}
 use Rattle.group_form.specs.Kernels.{PrintsBy}
 use Rattle.compilation.specs.Compiled.{IsCompiled}
+use Rattle.compilation.specs.Sequence.{IsCompiledSequence, Outline}
 use Rattle.program_runs.specs.Runs.{AreLinesOfText}
-use Rattle.program_runs.specs.Started.{AreRunLines}
+use Rattle.program_runs.specs.Sequences.{IsSequenceLine}
+use Rattle.program_runs.specs.Started.{AreRunLines, IsRunStagesLine, asks_in_order}
 
 -- any two kernels that are printed for one legal term, by the printer of its kind, with one local
 -- size or none, go alike at one launch and from the same contents: the same events can come, with
@@ -57,3 +60,23 @@ TextsRunAlike =
     → (source : PlainProgram) (output : PlainTy) (asks : Asks) (text : List ℕ)
     → IsCompiled program script source output asks text
     → AreLinesOf program launch traced text lines
+
+-- The line is that of the runs in order of the text's kernels, at what the launch file gives the
+-- program.
+pub record IsLineOfSequence (program launch text line : List ℕ) : Type 0 where
+  pub source : PlainProgram
+  pub outlines : List Outline
+  pub read : IsRead program source
+  pub given : GivenInOrder
+  pub launch_file : IsStagesFile source (asks_in_order outlines) launch given
+  pub run : IsSequenceLine source outlines text given line
+
+-- the line of runs in order is that of every text of the program's kernels in order, and so of the
+-- text that is written for the same files
+abbrev pub SequencesRunAlike : Type 0
+SequencesRunAlike =
+    (program script launch line : List ℕ)
+    → IsRunStagesLine program script launch line
+    → (source : PlainProgram) (output : PlainTy) (outlines : List Outline) (text : List ℕ)
+    → IsCompiledSequence program script source output outlines text
+    → IsLineOfSequence program launch text line

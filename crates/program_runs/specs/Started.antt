@@ -52,7 +52,8 @@ abbrev pub asks_in_order : List Outline → List PlainAsk
 asks_in_order outlines = map (λ (o : Outline). Run o.asks) outlines
 
 -- what a launch file gives to kernels in order, or the first check that it fails
-abbrev pub LaunchesOf : PlainProgram → List PlainAsk → (launch : List ℕ) → Result GivenInOrder LaunchNo
+abbrev pub LaunchesOf : PlainProgram → List PlainAsk → (launch : List ℕ)
+    → Result GivenInOrder LaunchNo
     → Type 0
 LaunchesOf p asks launch (Ok given) = IsStagesFile p asks launch given
 LaunchesOf p asks launch (Err why) = RefusesStages p asks launch why

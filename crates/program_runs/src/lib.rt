@@ -12,6 +12,8 @@ mod run;
 mod sequence;
 
 pub use command::{Command, command_text};
-pub use laws::{one_end, printed_kernels_go_alike, texts_have_costs, texts_run_alike};
+pub use laws::{
+    one_end, printed_kernels_go_alike, sequences_run_alike, texts_have_costs, texts_run_alike,
+};
 pub use run::run_launch;
 pub use sequence::run_sequence;

@@ -1,27 +1,26 @@
 -- The product of a stride's factors, as far as code can hold it, divides lengths and is
 -- one exactly where the product is.
 use Rattle.std.proofs.Common.{◌≡◌, ℕ, zero, suc, ◌+◌, ◌-◌, ◌*◌, ◌<◌, ◌≤◌, List, [], ◌∷◌, ◌++◌, length, drop, get_or, ℤ, pos, negsuc, ◌*ℤ◌, refl, sym, ap, ◌∙◌, subst, arith, Bool, true, false, Option, Some, None}
-use Rattle.std.specs.Prelude.{map, min, not, ◌&&◌, ◌⊎◌, ◌↔◌, IsTrue, IsSome, IfSome, if◌then◌else◌, nat_lt, nat_le, nat_eq, int_div, int_rem, unsigned_abs, slice_set}
+use Rattle.std.specs.Prelude.{map, min, ◌&&◌, ◌⊎◌, ◌↔◌, IsTrue, IsSome, IfSome, if◌then◌else◌, nat_lt, nat_eq, int_div, int_rem, unsigned_abs, slice_set}
 use Rattle.std.proofs.Math.Logic.{inl, inr}
 use Rattle.std.proofs.Math.Nat.{min-eq_left, min-eq_right}
 use Rattle.std.proofs.lemmas.Nat.{mul-le}
 use Rattle.std.proofs.lemmas.Int.{ints, unsigned_abs-mul}
 use Rattle.std.proofs.lemmas.List.{append-nil, drop_more}
-use Rattle.std.proofs.lemmas.Bool.{and_parts, and_from, ne_eqb}
+use Rattle.std.proofs.lemmas.Bool.{ne_eqb}
 use Rattle.std.proofs.Math.Dec.{leb-zero, leb-suc-zero, leb-suc-suc}
-use Rattle.std.proofs.lemmas.Bool.Decides.{nat_tests}
 use Rattle.size_arith.specs.declared.names.Name.{Name}
 use Rattle.size_arith.specs.declared.poly.Monomial.{Monomial}
 use Rattle.size_arith.specs.Polynomial.{no_powers, add_powers, less_powers, AtMost, total, degree, greatest, is_zero, on, of_monomial, IsCanonical, IsPoly, Divides, AllDivide, divided, quotient}
-use Rattle.size_arith.specs.Decisions.{is_same, is_shown}
-use Rattle.size_arith.proofs.Decisions.{decides_zero, same_is}
+use Rattle.size_arith.specs.Decisions.{is_same, is_shown, all_divide}
+use Rattle.size_arith.proofs.Decisions.{same_is, decides_all_divide}
 use Rattle.size_arith.proofs.Finding.{on_some}
 use Rattle.lift_tree.specs.declared.length.Factor.{Factor}
 use Rattle.lift_tree.specs.declared.length.Factor.TheVariants as factor
 use Rattle.lift_tree.specs.WorkedOut.{nth_name, factor_monomial, product_of}
 use Rattle.rules_algebra.specs.Steps.{multiple_at, number_of, numbers, one, count, counts, most_number, most_power, held}
-use Rattle.rules_algebra.specs.Strides.{are_at_most, divides, all_divide, is_divided}
-use Rattle.rules_algebra.proofs.Polynomials.{coefficient_times, abs_some}
+use Rattle.rules_algebra.specs.Strides.{is_divided}
+use Rattle.lift_tree.proofs.Quotients.{coefficient_times, abs_some}
 
 -- ---- numbers that stand still
 le_or : (a b : ℕ) → a ≤ b ⊎ b ≤ a
@@ -285,47 +284,6 @@ same_quotient n ks (m ∷ p) i h =
     let first : divided (part n ks) m ≡ divided (whole n ks) m = λ j. record { coefficient = a j; powers = b j } in
     let rest = same_quotient n ks p i.1 h.1 in
     ap (λ v. v ∷ quotient (part n ks) p) first ∙ ap (λ r. divided (whole n ks) m ∷ r) rest
-
--- ---- the tests of division
-decides_at_most : (ms ns : List ℕ) → IsTrue (are_at_most ms ns) ↔ AtMost ms ns
-decides_at_most [] ns = (λ h. tt, λ h. refl)
-decides_at_most (m ∷ ms) [] = (λ h. absurd (cc), λ h. absurd h)
-decides_at_most (m ∷ ms) (n ∷ ns) =
-    let r = decides_at_most ms ns in (
-      λ h. let p = and_parts (nat_le m n) (are_at_most ms ns) h in (le_of m n p.0, r.0 p.1),
-      λ h. and_from (nat_le m n) (are_at_most ms ns) (of_le m n h.0) (r.1 h.1),
-    )
-  where
-    le_of : (a b : ℕ) → IsTrue (nat_le a b) → a ≤ b
-    le_of a b h = grind (arith, nat_tests)
-
-    of_le : (a b : ℕ) → a ≤ b → IsTrue (nat_le a b)
-    of_le a b h = grind (arith, nat_tests)
-
-not_is : (b : Bool) → IsTrue (not b) ↔ (b ≡ false)
-not_is true = (λ h. absurd (cc), λ h. absurd (cc))
-not_is false = (λ h. refl, λ h. refl)
-
-decides_divides : (d m : Monomial) → IsTrue (divides d m) ↔ Divides d m
-decides_divides d m =
-    let n = not_is (is_zero d.coefficient) in
-    let z = decides_zero (int_rem m.coefficient d.coefficient) in
-    let a = decides_at_most d.powers m.powers in (
-      λ h.
-          let p = and_parts (not (is_zero d.coefficient)) (is_zero (int_rem m.coefficient d.coefficient) && are_at_most d.powers m.powers) h in
-          let q = and_parts (is_zero (int_rem m.coefficient d.coefficient)) (are_at_most d.powers m.powers) p.1 in
-          record { divisor = n.0 p.0; coefficient = z.0 q.0; powers = a.0 q.1 },
-      λ h. and_from (not (is_zero d.coefficient)) _ (n.1 h.divisor) (and_from (is_zero (int_rem m.coefficient d.coefficient)) _ (z.1 h.coefficient) (a.1 h.powers)),
-    )
-
-pub decides_all_divide : (d : Monomial) (p : List Monomial) → IsTrue (all_divide d p) ↔ AllDivide d p
-decides_all_divide d [] = (λ h. tt, λ h. refl)
-decides_all_divide d (m ∷ p) =
-    let a = decides_divides d m in
-    let r = decides_all_divide d p in (
-      λ h. let q = and_parts (divides d m) (all_divide d p) h in (a.0 q.0, r.0 q.1),
-      λ h. and_from (divides d m) (all_divide d p) (a.1 h.0) (r.1 h.1),
-    )
 
 -- ---- a length divided
 pub nothing_more : (names : List Name) (fs : List Factor) → held names (fs ++ []) ≡ held names fs

@@ -26,7 +26,7 @@ use Rattle.lift_tree.proofs.Sound.{values_have_types}
 use Rattle.lift_tree.proofs.Unique.{one_type}
 use Rattle.rewriting.specs.Keeps.{Keeps}
 use Rattle.rules_algebra.specs.Layouts.{without}
-use Rattle.rules_algebra.proofs.Keeping.{keeping}
+use Rattle.rewriting.proofs.Keeping.{keeping}
 use Rattle.rules_algebra.proofs.Lists.{map-map, map_same, map_itself, map-concat, fold_left-map, rows-map, map_rows, pieces-map, padded-map, columns-map, width-map, columns-columns, width-columns, rows-array}
 use Rattle.rules_algebra.proofs.Typed.{types-raise, types-unraise, types-substitute}
 use Rattle.rules_algebra.proofs.Unnamed.{raise-put}

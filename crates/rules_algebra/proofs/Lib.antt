@@ -1,8 +1,6 @@
 pub mod Held
-pub mod Keeping
 pub mod Kept
 pub mod Lists
-pub mod Polynomials
 pub mod Rest
 pub mod Ruled
 pub mod Split

@@ -3,9 +3,9 @@ use Rattle.std.proofs.Common.{◌≡◌, ◌≤◌, arith, zero, [], ◌∷◌, 
 use Rattle.std.specs.Prelude.{Result, Ok, Err, IfOk, if◌then◌else◌}
 use Rattle.size_arith.specs.declared.poly.Monomial.{Monomial}
 use Rattle.size_arith.specs.Polynomial.{of_monomial, times, quotient, degree, AllLow, IsPoly}
-use Rattle.size_arith.specs.Decisions.{is_same, is_shown}
+use Rattle.size_arith.specs.Decisions.{all_divide, is_same, is_shown}
 use Rattle.size_arith.specs.Shown.{ShownAtLeast}
-use Rattle.size_arith.proofs.Decisions.{decides_same, decides_shown}
+use Rattle.size_arith.proofs.Decisions.{decides_same, decides_shown, decides_all_divide}
 use Rattle.size_arith.proofs.Quotients.{poly-quotient}
 use Rattle.std.proofs.lemmas.Bool.{and_parts}
 use Rattle.lift_tree.specs.declared.length.Factor.{Factor}
@@ -31,11 +31,10 @@ use Rattle.rules_algebra.specs.Fusing.{fuse_map, fuse_fold}
 use Rattle.rules_algebra.specs.Inlining.{let_inline, copy}
 use Rattle.rules_algebra.specs.Layouts.{join_split, split_join, transpose_transpose, map_join, map_split, map_transpose, without, row_length, same_lengths, child, PiecesHaveTheirLength}
 use Rattle.rules_algebra.specs.Padding.{pad_map, map_pad}
-use Rattle.rules_algebra.specs.Strides.{reverse_reverse, map_reverse, map_stride, is_length, stride_stride, all_divide, has_quotient, stride_layout}
+use Rattle.rules_algebra.specs.Strides.{reverse_reverse, map_reverse, map_stride, is_length, stride_stride, has_quotient, stride_layout}
 use Rattle.rules_algebra.specs.Shapes.{HasPolynomial}
 use Rattle.rules_algebra.proofs.Kept.{fuse_map_keeps, fuse_fold_keeps, let_inline_keeps, map_join_keeps, map_split_keeps, map_transpose_keeps, pad_map_keeps, map_pad_keeps, transpose_transpose_keeps, copy_keeps}
 use Rattle.rules_algebra.proofs.Split.{join_split_keeps, split_join_keeps}
-use Rattle.rules_algebra.proofs.Held.{decides_all_divide}
 use Rattle.rules_algebra.proofs.Strided.{reverse_reverse_keeps, map_reverse_keeps, map_stride_keeps, stride_stride_keeps, stride_layout_keeps}
 
 low_of_poly : (p : List Monomial) → IsPoly p → AllLow 4 p

@@ -23,10 +23,10 @@ use Rattle.lift_tree.proofs.Sound.{values_have_types}
 use Rattle.lift_tree.proofs.Unique.{one_type}
 use Rattle.rewriting.specs.Keeps.{Keeps}
 use Rattle.rules_algebra.specs.Shapes.{HasPolynomial}
-use Rattle.rules_algebra.proofs.Keeping.{keeping}
+use Rattle.rewriting.proofs.Keeping.{keeping}
 use Rattle.rules_algebra.proofs.Kept.{same_array}
 use Rattle.rules_algebra.proofs.Lists.{concat-pieces, pieces-concat, length-concat, rows-array}
-use Rattle.rules_algebra.proofs.Polynomials.{not_zero, quotient_joined, joined_quotient}
+use Rattle.lift_tree.proofs.Quotients.{not_zero, quotient_joined, joined_quotient}
 use Rattle.rules_algebra.proofs.Values.{array_back, rows_back, pieces_fit}
 
 module _ (d : Declared) (g : List PlainTy) (declared : IsDeclared d) (fg : Every (IsFormed d.names) g) where

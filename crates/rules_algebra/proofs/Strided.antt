@@ -36,10 +36,10 @@ use Rattle.lift_tree.proofs.Formed.{formed}
 use Rattle.lift_tree.proofs.Sound.{values_have_types}
 use Rattle.lift_tree.proofs.Unique.{one_type}
 use Rattle.rewriting.specs.Keeps.{Keeps}
-use Rattle.rules_algebra.proofs.Keeping.{keeping}
+use Rattle.rewriting.proofs.Keeping.{keeping}
 use Rattle.rules_algebra.proofs.Kept.{same_array}
 use Rattle.rules_algebra.proofs.Lists.{map-concat, pieces-map, columns-map, columns-columns, concat-pieces, pieces-concat, length-concat}
-use Rattle.rules_algebra.proofs.Polynomials.{a_product, none_shown}
+use Rattle.lift_tree.proofs.Quotients.{a_product, none_shown}
 use Rattle.rules_algebra.proofs.Values.{array_back, some_members}
 
 -- ---- lists

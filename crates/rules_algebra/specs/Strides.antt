@@ -1,12 +1,12 @@
 -- Rules on reverse and stride.
-use Rattle.std.specs.Prelude.{Bool, true, false, not, ◌&&◌, List, [], ◌∷◌, ◌++◌, int_rem, nat_le, if◌then◌else◌, ℕ}
+use Rattle.std.specs.Prelude.{Bool, false, ◌&&◌, List, [], ◌++◌, if◌then◌else◌}
 use Rattle.rewriting.specs.declared.refused.Condition.TheVariants.{Same, Length}
 use Rattle.rewriting.specs.Answers.{Answer, Becomes, NoShape, NoSide}
 use Rattle.rewriting.specs.Around.{Around}
 use Rattle.size_arith.specs.declared.names.Name.{Name}
 use Rattle.size_arith.specs.declared.poly.Monomial.{Monomial}
-use Rattle.size_arith.specs.Polynomial.{is_zero, of_monomial, quotient}
-use Rattle.size_arith.specs.Decisions.{is_same, is_shown}
+use Rattle.size_arith.specs.Polynomial.{of_monomial, quotient}
+use Rattle.size_arith.specs.Decisions.{all_divide, is_same, is_shown}
 use Rattle.lift_tree.specs.declared.layout.Layout.TheVariants.{Join, Transpose, Split, Reverse, Stride}
 use Rattle.lift_tree.specs.declared.length.Factor.{Factor}
 use Rattle.lift_tree.specs.declared.term.MapKind.TheVariants.{Plain}
@@ -52,22 +52,6 @@ stride_stride a (Unary (Layout (Stride k)) (Unary (Layout (Stride m)) xs)) =
 stride_stride a _ = NoShape
 
 -- ---- lengths divided exactly
-abbrev pub are_at_most : List ℕ → List ℕ → Bool
-are_at_most [] ns = true
-are_at_most (m ∷ ms) [] = false
-are_at_most (m ∷ ms) (n ∷ ns) = nat_le m n && are_at_most ms ns
-
--- a monomial divides another: its coefficient does, and none of its powers is above the other's
-abbrev pub divides : Monomial → Monomial → Bool
-divides d m =
-    not (is_zero d.coefficient)
-    && (is_zero (int_rem m.coefficient d.coefficient) && are_at_most d.powers m.powers)
-
--- it divides each monomial of a length
-abbrev pub all_divide : Monomial → List Monomial → Bool
-all_divide d [] = true
-all_divide d (m ∷ p) = divides d m && all_divide d p
-
 -- the monomial divides the length exactly, and the quotient is shown at least 1
 abbrev pub is_divided : List Name → Monomial → List Monomial → Bool
 is_divided names d n = all_divide d n && is_shown 1 names (quotient d n)

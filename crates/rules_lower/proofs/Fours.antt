@@ -31,10 +31,10 @@ use Rattle.rewriting.specs.Answers.{Becomes}
 use Rattle.rewriting.specs.Around.{Around}
 use Rattle.rewriting.specs.Keeps.{KeepsIn}
 use Rattle.rules_lower.specs.Vectors.{is_u32, made_of_lanes, names_binder, array_type, holds_numbers, length_in, divides, as_vector, as_scalar, false_of, unless, by_fours, vectors_again, inner_type, HasPolynomial}
-use Rattle.rules_lower.proofs.Keeping.{keeping}
-use Rattle.rules_lower.proofs.Lengths.{pieces_length, shown-quotient}
-use Rattle.rules_lower.proofs.Linear.{no_powers_at_most}
-use Rattle.rules_lower.proofs.Polynomials.{number_quotient}
+use Rattle.rewriting.proofs.Keeping.{keeping}
+use Rattle.lift_tree.proofs.PieceLengths.{pieces_length, shown-quotient}
+use Rattle.lift_tree.proofs.Linear.{no_powers_at_most}
+use Rattle.lift_tree.proofs.Quotients.{number_quotient}
 use Rattle.rules_lower.proofs.Lanes.{maps_by_fours, vectors_of_scalars}
 
 same_array : (x y : PlainTy) (n m : List Monomial) → ArrayOf x n ≡ ArrayOf y m → (x ≡ y) × (n ≡ m)

@@ -33,7 +33,7 @@ use Rattle.rules_lower.specs.declared.rule.Rule.TheVariants.{ToParallel, ToSeque
 use Rattle.rules_lower.specs.Rules.{answer, mapped, folded, copied, if_closed}
 use Rattle.rules_lower.specs.Laws.{LoweringKeeps}
 use Rattle.rules_lower.specs.Vectors.{HasPolynomials}
-use Rattle.rules_lower.proofs.Keeping.{keeping}
+use Rattle.rewriting.proofs.Keeping.{keeping}
 use Rattle.rules_lower.proofs.Fours.{fours_keep, vectors_again_keep}
 
 becomes_of : (t u : Tree) → Becomes t ≡ Becomes u → t ≡ u

@@ -10,7 +10,7 @@ use Rattle.size_arith.specs.Polynomial.{Place, Before, Here, After, place, no_po
 use Rattle.size_arith.proofs.Values.{place_here}
 use Rattle.lift_tree.specs.Typing.{constant}
 use Rattle.rules_split.specs.Tests.{divides}
-use Rattle.rules_split.proofs.Linear.{AllZero, none}
+use Rattle.lift_tree.proofs.Linear.{AllZero, none}
 
 rem_zero : (k : ℕ) → 0 < k → is_zero (int_rem (pos 0) (pos k)) ≡ true
 rem_zero zero h = absurd (omega arith)

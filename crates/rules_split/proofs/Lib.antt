@@ -1,7 +1,4 @@
-pub mod Keeping
 pub mod Less
-pub mod Lengths
-pub mod Linear
 pub mod Lists
 pub mod Reducing
 pub mod Rows

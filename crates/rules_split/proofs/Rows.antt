@@ -30,9 +30,9 @@ use Rattle.rewriting.specs.Answers.{Becomes}
 use Rattle.rewriting.specs.Around.{Around, IsAround}
 use Rattle.rewriting.specs.Keeps.{KeepsIn}
 use Rattle.rules_split.specs.Rules.{in_pieces, joined, reduced_by_rows, folded, array_length, reducer_of, split_reduce, stride_reduce, reduce_fold}
-use Rattle.rules_split.proofs.Keeping.{keeping}
+use Rattle.rewriting.proofs.Keeping.{keeping}
 use Rattle.rules_split.proofs.Lists.{map_same, map-map, rows-array, pieces-map, concat-pieces}
-use Rattle.rules_split.proofs.Lengths.{wide-constant, wide-quotient, shown-constant, shown-quotient, shown-one}
+use Rattle.lift_tree.proofs.PieceLengths.{wide-constant, wide-quotient, shown-constant, shown-quotient, shown-one}
 use Rattle.rules_split.proofs.Reducing.{regrouped, strided, columns_of, columns_fit, head_or, rest, IsRow}
 use Rattle.rules_split.proofs.Splitting.{split_row, cut}
 use Rattle.rules_split.proofs.Tried.{ArePieces, pieces_hold, unless_none}

@@ -29,9 +29,9 @@ use Rattle.rewriting.specs.Answers.{Becomes}
 use Rattle.rewriting.specs.Around.{Around}
 use Rattle.rewriting.specs.Keeps.{KeepsIn}
 use Rattle.rules_split.specs.Rules.{in_pieces, mapped_by_rows, array_length, split_map}
-use Rattle.rules_split.proofs.Keeping.{keeping}
+use Rattle.rewriting.proofs.Keeping.{keeping}
 use Rattle.rules_split.proofs.Lists.{map_same, rows-array, rows_mapped, concat-pieces}
-use Rattle.rules_split.proofs.Lengths.{pieces_length, shown-quotient, shown-constant}
+use Rattle.lift_tree.proofs.PieceLengths.{pieces_length, shown-quotient, shown-constant}
 use Rattle.rules_split.proofs.Tried.{ArePieces, pieces_hold, unless_none}
 use Rattle.rules_split.proofs.Typed.{same_array, types-raise, map_array}
 

@@ -37,10 +37,10 @@ use Rattle.rewriting.specs.Around.{Around}
 use Rattle.rewriting.specs.Keeps.{KeepsIn}
 use Rattle.rules_split.specs.Tests.{divides}
 use Rattle.rules_split.specs.Rules.{tiled, tile_slide, tile_sides, first_false, array_length}
-use Rattle.rules_split.proofs.Keeping.{keeping}
-use Rattle.rules_split.proofs.Linear.{total_by, total-constant, total-quotient, no_powers_at_most}
+use Rattle.rewriting.proofs.Keeping.{keeping}
+use Rattle.lift_tree.proofs.Linear.{total_by, total-constant, total-quotient, no_powers_at_most}
 use Rattle.rules_split.proofs.Lists.{map_every, map-map, map-concat, tiles}
-use Rattle.rules_split.proofs.Lengths.{canonical-constant, wide-minus, canonical-minus, wide-plus, wide-quotient, canonical-quotient, total-plus, total-minus, total-times, shifted_total, shown-constant}
+use Rattle.lift_tree.proofs.PieceLengths.{canonical-constant, wide-minus, canonical-minus, wide-plus, wide-quotient, canonical-quotient, total-plus, total-minus, total-times, shifted_total, shown-constant}
 use Rattle.rules_split.proofs.Tried.{divided_by, at_least_one, none_false, unless_none}
 use Rattle.rules_split.proofs.Typed.{same_array, slide_array}
 

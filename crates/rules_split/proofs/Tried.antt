@@ -11,7 +11,7 @@ use Rattle.rules_split.specs.Tests.{divides}
 use Rattle.lift_tree.specs.Tree.{Tree}
 use Rattle.rewriting.specs.Answers.{Becomes}
 use Rattle.rules_split.specs.Rules.{first_false, unless, piece_sides}
-use Rattle.rules_split.proofs.Linear.{no_powers_at_most}
+use Rattle.lift_tree.proofs.Linear.{no_powers_at_most}
 
 -- ---- what divides
 pub divided_by : (k : ℕ) (p : List Monomial) → 0 < k → AllWide 8 p → IsTrue (divides k p) → AllDivide (number (pos k)) p

@@ -43,7 +43,8 @@ left k r = run (device k r) r.state r.events
 -- A run of a kernel: its launch is admissible where the base names have these values, the buffers
 -- of its output are as long as its term's type says and hold anything, as does all other memory
 -- but its inputs.
-pub record IsStageRun (local : Option (ℕ × ℕ)) (bases : List ℕ) (k : Stage) (r : StageRun) : Type 0 where
+pub record IsStageRun (local : Option (ℕ × ℕ)) (bases : List ℕ) (k : Stage)
+    (r : StageRun) : Type 0 where
   pub launch : IsAdmissibleLaunch k.declared.names (asks_of local k.tree) bases
       r.launch.global r.launch.local
   pub sizes : r.launch.sizes ≡ sizes_at k.declared.names bases
@@ -68,7 +69,8 @@ GoesOver k r (next ∷ rs) = IsStuck (device k r) (left k r) × Passes k r next.
 
 -- runs of the first kernels in order, each from the buffers that the one before left after it
 -- stopped, with one valuation; the last run may be unfinished
-abbrev pub AreRuns : (local : Option (ℕ × ℕ)) → (bases : List ℕ) → List Stage → List StageRun → Type 0
+abbrev pub AreRuns : (local : Option (ℕ × ℕ)) → (bases : List ℕ) → List Stage → List StageRun
+    → Type 0
 AreRuns local bases ks [] = Unit {0}
 AreRuns local bases [] (r ∷ rs) = ⊥
 AreRuns local bases (k ∷ ks) (r ∷ rs) =

@@ -1,16 +1,16 @@
 -- What the tests of polynomials decide.
-use Rattle.std.proofs.Common.{◌≡◌, ℕ, zero, suc, ◌-◌, ◌≤◌, List, [], ◌∷◌, length, refl, sym, ap, ◌∙◌, subst, arith, Bool, pos, negsuc, ℤ, inl, inr}
-use Rattle.std.specs.Prelude.{IsTrue, ◌&&◌, ◌↔◌, ◌⊎◌, neg_ℤ, ◌≤ℤ◌, int_le, nat_eq}
+use Rattle.std.proofs.Common.{◌≡◌, ℕ, zero, suc, ◌-◌, ◌≤◌, List, [], ◌∷◌, length, refl, sym, ap, ◌∙◌, subst, arith, Bool, pos, negsuc, ℤ, inl, inr, true, false}
+use Rattle.std.specs.Prelude.{IsTrue, ◌&&◌, ◌↔◌, ◌⊎◌, neg_ℤ, ◌≤ℤ◌, int_le, nat_eq, not, nat_le, int_rem}
 use Rattle.std.specs.Ordering.{int_eq}
 use Rattle.std.proofs.lemmas.Int.{ints}
 use Rattle.std.proofs.lemmas.Bool.{and_parts, and_from, eqb-true, eq-eqb}
-use Rattle.std.proofs.lemmas.Bool.Decides.{Decides-int_eq, same_from_decides}
+use Rattle.std.proofs.lemmas.Bool.Decides.{Decides-int_eq, same_from_decides, nat_tests}
 use Rattle.size_arith.specs.declared.names.Name.{Name}
 use Rattle.size_arith.specs.declared.poly.Monomial.{Monomial}
-use Rattle.size_arith.specs.Polynomial.{number, is_zero, total, IsPoly, AllLow}
+use Rattle.size_arith.specs.Polynomial.{number, is_zero, total, IsPoly, AllLow, AtMost, Divides, AllDivide}
 use Rattle.size_arith.specs.Shown.{shifted, ShownAtLeast}
 use Rattle.size_arith.specs.Ranges.{leasts}
-use Rattle.size_arith.specs.Decisions.{all_upto, all_powers, is_shown, is_same, same_powers}
+use Rattle.size_arith.specs.Decisions.{all_upto, all_powers, is_shown, is_same, same_powers, are_at_most, divides, all_divide}
 use Rattle.size_arith.proofs.Soundness.{tried_all, shown_all}
 use Rattle.size_arith.proofs.Limits.{low_of}
 use Rattle.size_arith.proofs.Ranges.{length-leasts}
@@ -105,3 +105,44 @@ decides_same (m ∷ p) (n ∷ q) =
 
 pub same_is : (b : Bool) (p q : List Monomial) → (IsTrue b ↔ (p ≡ q)) → b ≡ is_same p q
 same_is b p q h = same_from_decides b (is_same p q) h (decides_same p q)
+
+-- ---- division without a rest
+decides_at_most : (ms ns : List ℕ) → IsTrue (are_at_most ms ns) ↔ AtMost ms ns
+decides_at_most [] ns = (λ h. tt, λ h. refl)
+decides_at_most (m ∷ ms) [] = (λ h. absurd (cc), λ h. absurd h)
+decides_at_most (m ∷ ms) (n ∷ ns) =
+    let r = decides_at_most ms ns in (
+      λ h. let p = and_parts (nat_le m n) (are_at_most ms ns) h in (le_of m n p.0, r.0 p.1),
+      λ h. and_from (nat_le m n) (are_at_most ms ns) (of_le m n h.0) (r.1 h.1),
+    )
+  where
+    le_of : (a b : ℕ) → IsTrue (nat_le a b) → a ≤ b
+    le_of a b h = grind (arith, nat_tests)
+
+    of_le : (a b : ℕ) → a ≤ b → IsTrue (nat_le a b)
+    of_le a b h = grind (arith, nat_tests)
+
+not_is : (b : Bool) → IsTrue (not b) ↔ (b ≡ false)
+not_is true = (λ h. absurd (cc), λ h. absurd (cc))
+not_is false = (λ h. refl, λ h. refl)
+
+decides_divides : (d m : Monomial) → IsTrue (divides d m) ↔ Divides d m
+decides_divides d m =
+    let n = not_is (is_zero d.coefficient) in
+    let z = decides_zero (int_rem m.coefficient d.coefficient) in
+    let a = decides_at_most d.powers m.powers in (
+      λ h.
+          let p = and_parts (not (is_zero d.coefficient)) (is_zero (int_rem m.coefficient d.coefficient) && are_at_most d.powers m.powers) h in
+          let q = and_parts (is_zero (int_rem m.coefficient d.coefficient)) (are_at_most d.powers m.powers) p.1 in
+          record { divisor = n.0 p.0; coefficient = z.0 q.0; powers = a.0 q.1 },
+      λ h. and_from (not (is_zero d.coefficient)) _ (n.1 h.divisor) (and_from (is_zero (int_rem m.coefficient d.coefficient)) _ (z.1 h.coefficient) (a.1 h.powers)),
+    )
+
+pub decides_all_divide : (d : Monomial) (p : List Monomial) → IsTrue (all_divide d p) ↔ AllDivide d p
+decides_all_divide d [] = (λ h. tt, λ h. refl)
+decides_all_divide d (m ∷ p) =
+    let a = decides_divides d m in
+    let r = decides_all_divide d p in (
+      λ h. let q = and_parts (divides d m) (all_divide d p) h in (a.0 q.0, r.0 q.1),
+      λ h. and_from (divides d m) (all_divide d p) (a.1 h.0) (r.1 h.1),
+    )

@@ -1,9 +1,9 @@
 -- What is decided of polynomials, as tests.
-use Rattle.std.specs.Prelude.{ℕ, zero, suc, Bool, true, false, ◌&&◌, ◌-◌, nat_eq, List, [], ◌∷◌, length, pos, neg_ℤ, int_le}
+use Rattle.std.specs.Prelude.{ℕ, zero, suc, Bool, true, false, ◌&&◌, ◌-◌, nat_eq, List, [], ◌∷◌, length, pos, neg_ℤ, int_le, not, nat_le, int_rem}
 use Rattle.std.specs.Ordering.{int_eq}
 use Rattle.size_arith.specs.declared.names.Name.{Name}
 use Rattle.size_arith.specs.declared.poly.Monomial.{Monomial}
-use Rattle.size_arith.specs.Polynomial.{number}
+use Rattle.size_arith.specs.Polynomial.{number, is_zero}
 use Rattle.size_arith.specs.Shown.{shifted}
 use Rattle.size_arith.specs.Ranges.{leasts}
 
@@ -38,3 +38,21 @@ is_same [] (n ∷ q) = false
 is_same (m ∷ p) [] = false
 is_same (m ∷ p) (n ∷ q) =
     int_eq m.coefficient n.coefficient && (same_powers m.powers n.powers && is_same p q)
+
+-- ---- division without a rest
+-- each power of the first list is at most that of the second at its place
+abbrev pub are_at_most : List ℕ → List ℕ → Bool
+are_at_most [] ns = true
+are_at_most (m ∷ ms) [] = false
+are_at_most (m ∷ ms) (n ∷ ns) = nat_le m n && are_at_most ms ns
+
+-- the first monomial divides the second
+abbrev pub divides : Monomial → Monomial → Bool
+divides d m =
+    not (is_zero d.coefficient)
+    && (is_zero (int_rem m.coefficient d.coefficient) && are_at_most d.powers m.powers)
+
+-- the monomial divides each of the sum
+abbrev pub all_divide : Monomial → List Monomial → Bool
+all_divide d [] = true
+all_divide d (m ∷ p) = divides d m && all_divide d p

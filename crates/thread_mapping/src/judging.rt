@@ -4,7 +4,7 @@ ghost use Rattle.std.specs.Prelude.{◌≡◌, [], ◌∷◌, IfErr, IfOk, OnOk,
 ghost use Rattle.lift_tree.specs.Tree.{tree_of};
 ghost use Rattle.lift_tree.specs.Annotations.{annotation_of};
 ghost use Rattle.lift_tree.specs.FixedSizes.{size_fixed};
-ghost use Rattle.lowered_tree.specs.Nest.{at_place, earliest_rules, first_broken, first_broken_with, first_of, later_rules, nest_fault, size_rule};
+ghost use Rattle.lowered_tree.specs.Nest.{at_place, first_broken, first_broken_with, first_of, nest_fault, size_rule};
 ghost use Rattle.lowered_tree.specs.Nodes.{sites_of, sites_among, under_last};
 ghost use Rattle.thread_mapping.specs.Found.{found, from_child, under_bounds, Refuses};
 
@@ -257,7 +257,7 @@ fn fault(
 /// where there is a cut, with the first in preorder, or where another rule is broken, with the
 /// first node in preorder and the lowest rule there.
 pub fn judge(alloc: Global, lowered: Lowered, local: Option<LocalSize>) -> Result<Mapped, NestNo>
-    ensures legal { IfOk result (λ m. m.lowered ≡ lowered) }
+    ensures kept { IfOk result (λ m. m.lowered ≡ lowered) }
     ensures size { IfOk result (λ m. m.local ≡ size_fixed local) }
     ensures refused { IfErr result
         (λ e. Refuses e (size_fixed local) (tree_of lowered.term) (annotation_of lowered.types)) }

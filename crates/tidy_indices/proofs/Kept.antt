@@ -11,7 +11,7 @@ use Rattle.length_spelling.specs.Formulas.{index_formula}
 use Rattle.length_spelling.specs.Laws.{AreWords}
 use Rattle.index_simplify.specs.PlainRanges.{PlainRanges}
 use Rattle.index_simplify.specs.Operations.{simple}
-use Rattle.index_simplify.specs.Ranges.{AreMultiples}
+use Rattle.index_simplify.specs.Ranges.{AreMultiples, ArePositive}
 use Rattle.index_simplify.specs.Simplified.{HasWordLiterals, AreDeclared}
 use Rattle.index_simplify.specs.Promises.{ExpressionsAreSimplified}
 use Rattle.tidy_indices.specs.Formulas.{formula_nodes, simple_formula}
@@ -31,13 +31,13 @@ use Rattle.tidy_indices.proofs.Readings.{is_read, index_reads}
 use Rattle.tidy_indices.proofs.Worths.{simple_worth}
 use Rattle.tidy_indices.proofs.Intervals.{AreSizesOf, is_shown, is_ranged}
 use Rattle.tidy_indices.proofs.Narrowed.{same_spelled, same_span, same_literals, are_within, same_short, are_declared}
-use Rattle.tidy_indices.proofs.Turns.{Holds, place_is_of, place_holds, turns_fit, turns_up_to, are_below_lengths, multiples_at, sizes_fit, sizes_within, sizes_divide, shown_value}
+use Rattle.tidy_indices.proofs.Turns.{Holds, place_is_of, place_holds, turns_fit, turns_up_to, are_below_lengths, multiples_at, positive_at, sizes_fit, sizes_within, sizes_divide, sizes_positive, shown_value}
 
 -- ---- values
-module _ (facts : Known) (names : List Name) (ids : Ids) (fit : AreWords ids.sizes) (sizes_are : AreSizesOf names ids.sizes) (all : AreMultiples (ranges_outside names) ids.sizes) (loops : List ℕ) (variables : Vars) (p : PlainPlace) (h : Holds names ids.sizes fit sizes_are all p (turns_of ids loops)) (f : Formula) (n : ℕ) (is : value ids loops variables f ≡ Some n) where
+module _ (facts : Known) (names : List Name) (ids : Ids) (fit : AreWords ids.sizes) (sizes_are : AreSizesOf names ids.sizes) (all : AreMultiples (ranges_outside names) ids.sizes) (some : ArePositive (ranges_outside names) ids.sizes) (loops : List ℕ) (variables : Vars) (p : PlainPlace) (h : Holds names ids.sizes fit sizes_are all some p (turns_of ids loops)) (f : Formula) (n : ℕ) (is : value ids loops variables f ≡ Some n) where
   module _ (known : p.is_known ≡ true) (e : Expression) (read : reading f ≡ Some e) where
     words : AreWords (turns_of ids loops)
-    words = turns_fit names ids.sizes fit sizes_are all p.around.lengths p.lasts (turns_of ids loops) (h.known known)
+    words = turns_fit names ids.sizes fit sizes_are all some p.around.lengths p.lasts (turns_of ids loops) (h.known known)
 
     worth : value ids loops variables (index_formula e) ≡ Some n
     worth = ap (value ids loops variables) (is_read f e read).same ∙ is
@@ -46,19 +46,19 @@ module _ (facts : Known) (names : List Name) (ids : Ids) (fit : AreWords ids.siz
     ranged_value s span =
         let turns = turns_of ids loops in
         let it = is_read f e read in
-        let up_to = turns_up_to names ids.sizes fit sizes_are all p.around.lengths p.lasts turns (h.known known) in
+        let up_to = turns_up_to names ids.sizes fit sizes_are all some p.around.lengths p.lasts turns (h.known known) in
         let index : Expression = narrowed p.lasts e in
         let literals : HasWordLiterals index = same_literals p.lasts e it.literals in
         let shown = is_shown names ids.sizes p.lasts turns sizes_are up_to index s literals (same_span p.lasts names e ∙ ap (λ z. span_of z p.lasts e) (sym h.is_of.sizes) ∙ span) in
         let twice : Some n ≡ Some shown.at = sym worth ∙ ap (value ids loops variables) (sym (same_spelled p.lasts e)) ∙ shown_value facts names ids p.lasts loops variables sizes_are up_to index s fit words literals shown in
         facts.simple p.around ids loops variables index shown.at fit words literals
-        (record { loops = are_below_lengths names ids.sizes fit sizes_are all p turns (h.known known); multiples = multiples_at names ids.sizes fit sizes_are all p h.is_of; own = are_within p.lasts turns up_to e (it.wide turns words) })
+        (record { loops = are_below_lengths names ids.sizes fit sizes_are all some p turns (h.known known); multiples = multiples_at names ids.sizes fit sizes_are all some p h.is_of; positive = positive_at names ids.sizes fit sizes_are all some p h.is_of; own = are_within p.lasts turns up_to e (it.wide turns words) })
         (is_ranged names ids.sizes p.lasts turns sizes_are up_to index s shown) shown.divisors shown.exact_is
         ∙ sym twice
 
     by_span : (s : Option Span) → span_of p.sizes p.lasts e ≡ s → value ids loops variables (tidied_by p s e) ≡ Some n
     by_span (Some s) span = ranged_value s span
-    by_span None span = let it = is_read f e read in simple_worth facts p.around.multiples ids loops variables fit words (multiples_at names ids.sizes fit sizes_are all p h.is_of) e n it.literals it.wide worth
+    by_span None span = let it = is_read f e read in simple_worth facts p.around.multiples ids loops variables fit words (multiples_at names ids.sizes fit sizes_are all some p h.is_of) (positive_at names ids.sizes fit sizes_are all some p h.is_of) e n it.literals it.wide worth
 
   by_reading : (known : p.is_known ≡ true) (e : Option Expression) → reading f ≡ e → value ids loops variables (tidied_reading p f e) ≡ Some n
   by_reading known (Some e) read = by_span known e read (span_of p.sizes p.lasts e) refl
@@ -75,8 +75,9 @@ module _ (facts : Known) (names : List Name) (bases : List ℕ) (are : AreNames 
       let fit = subst AreWords (sym same) (sizes_fit names bases are ok) in
       let sizes = subst (AreSizesOf names) (sym same) (sizes_within names bases are ok) in
       let divide = subst (AreMultiples (ranges_outside names)) (sym same) (sizes_divide names bases ok) in
+      let positive = subst (ArePositive (ranges_outside names)) (sym same) (sizes_positive names bases are ok) in
       let p : PlainPlace = place_of names local around in
-      by_known facts names ids fit sizes divide loops variables p (place_holds names ids.sizes fit sizes divide facts ids refl local around loops own stands) f n is p.is_known refl
+      by_known facts names ids fit sizes divide positive loops variables p (place_holds names ids.sizes fit sizes divide positive facts ids refl local around loops own stands) f n is p.is_known refl
 
 pub keep_values : Known → TidyFormulasKeepValues
 keep_values facts names bases local l are ok same at = record {

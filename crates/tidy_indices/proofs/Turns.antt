@@ -17,7 +17,7 @@ use Rattle.length_spelling.specs.Turns.{turns_of}
 use Rattle.length_spelling.specs.Formulas.{index_formula}
 use Rattle.length_spelling.specs.Laws.{AreWords}
 use Rattle.index_simplify.specs.Operations.{simple}
-use Rattle.index_simplify.specs.Ranges.{AreMultiples, AreBelowLengths}
+use Rattle.index_simplify.specs.Ranges.{AreMultiples, ArePositive, AreBelowLengths}
 use Rattle.index_simplify.specs.Simplified.{HasWordLiterals}
 use Rattle.tidy_indices.specs.declared.spans.Span.{Span}
 use Rattle.tidy_indices.specs.Reading.{reading}
@@ -86,6 +86,12 @@ sizes_divide (n ∷ names) (y ∷ bases) ok zero m h =
     subst (λ z. (n.multiple * y) % z ≡ 0) same (mul-mod_right n.multiple y)
 sizes_divide (n ∷ names) (y ∷ bases) ok (suc k) m h = sizes_divide names bases ok.1 k m h
 
+pub sizes_positive : (names : List Name) (bases : List ℕ) → AreNames names → Admissible names bases → ArePositive (ranges_outside names) (sizes_at names bases)
+sizes_positive [] bases are ok k m h = absurd (cc h)
+sizes_positive (n ∷ names) [] are ok k m h = absurd ok
+sizes_positive (n ∷ names) (y ∷ bases) are ok zero m h = let some = are.0.from_positive in let above = ok.0.0 in omega arith
+sizes_positive (n ∷ names) (y ∷ bases) are ok (suc k) m h = sizes_positive names bases are.1 ok.1 k m h
+
 -- ---- an expression that has a span is worth what it is exactly
 pub shown_value : Known → (names : List Name) (ids : Ids) (lasts loops : List ℕ) (variables : Vars) (sizes_are : AreSizesOf names ids.sizes) (turns_are : AreUpTo lasts (turns_of ids loops)) (e : Expression) (s : Span)
     → AreWords ids.sizes → AreWords (turns_of ids loops) → HasWordLiterals e → (h : IsShown names ids.sizes lasts (turns_of ids loops) sizes_are turns_are e s)
@@ -109,7 +115,7 @@ same_turns names sizes turns others (index.Binary o a b) s h =
     ∙ ap (operate o (exact sizes others a)) (same_turns names sizes turns others b p.1.0 p.1.1)
 
 -- ---- the turns
-module _ (names : List Name) (sizes : List ℕ) (fit : AreWords sizes) (sizes_are : AreSizesOf names sizes) (all : AreMultiples (ranges_outside names) sizes) where
+module _ (names : List Name) (sizes : List ℕ) (fit : AreWords sizes) (sizes_are : AreSizesOf names sizes) (all : AreMultiples (ranges_outside names) sizes) (some : ArePositive (ranges_outside names) sizes) where
   -- a turn is below its length, which is so long whatever the turns
   pub record IsTurn (n : Expression) (g t : ℕ) : Type 0 where
     pub count : ℕ
@@ -214,6 +220,9 @@ module _ (names : List Name) (sizes : List ℕ) (fit : AreWords sizes) (sizes_ar
   pub multiples_at : (p : PlainPlace) → IsOf names p → AreMultiples (without_turns p.around) sizes
   multiples_at p h = subst (λ ms. AreMultiples (record { lengths = []; multiples = ms }) sizes) (sym h.multiples) all
 
+  pub positive_at : (p : PlainPlace) → IsOf names p → ArePositive (without_turns p.around) sizes
+  positive_at p h = subst (λ ms. ArePositive (record { lengths = []; multiples = ms }) sizes) (sym h.multiples) some
+
   -- outside of all loops, where ids are not looked at
   abbrev Outside : List ℕ
   Outside = turns_of (sizes_alone sizes) []
@@ -247,7 +256,7 @@ module _ (names : List Name) (sizes : List ℕ) (fit : AreWords sizes) (sizes_ar
         record {
           count = n;
           length_is = λ turns words.
-              ((facts.simplified (without_turns p.around) e).stands sizes turns (record { loops = λ k m f. absurd (cc f); multiples = multiples_at p is_of; own = wide turns words })).value
+              ((facts.simplified (without_turns p.around) e).stands sizes turns (record { loops = λ k m f. absurd (cc f); multiples = multiples_at p is_of; positive = positive_at p is_of; own = wide turns words })).value
               ∙ same_turns names sizes turns Outside e s h ∙ shown.exact_is ∙ ap pos (sym same);
           below = lt;
           last = omega arith;
@@ -257,7 +266,7 @@ module _ (names : List Name) (sizes : List ℕ) (fit : AreWords sizes) (sizes_ar
     -- and of one whose bound may wrap
     word_turn : (p : PlainPlace) (e : Expression) (n t : ℕ) → IsOf names p → HasWordLiterals e → value (sizes_alone sizes) [] no_vars (index_formula e) ≡ Some n → t < n → IsTurn beyond_words 4294967295 t
     word_turn p e n t is_of lits w lt =
-        let word = word_of facts p.around.multiples (sizes_alone sizes) [] no_vars fit own_words (multiples_at p is_of) e n lits w in
+        let word = word_of facts p.around.multiples (sizes_alone sizes) [] no_vars fit own_words (multiples_at p is_of) (positive_at p is_of) e n lits w in
         word_length t (omega arith)
 
     loop_holds : (p : PlainPlace) (us : List ℕ) (e : Expression) (n t : ℕ) → Holds p us → HasWordLiterals e → AreWide e → value (sizes_alone sizes) [] no_vars (index_formula e) ≡ Some n → t < n → (s : Option Span) → span_of p.sizes [] e ≡ s → Holds (in_loop_of p e s) (us ++ t ∷ [])

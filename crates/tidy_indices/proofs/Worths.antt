@@ -19,14 +19,14 @@ use Rattle.index_simplify.specs.declared.law.Law.{Law}
 use Rattle.index_simplify.specs.declared.law.Law.TheVariants as law
 use Rattle.index_simplify.specs.declared.law.TheConstants.{LAWS}
 use Rattle.index_simplify.specs.Literals.{word, difference, computed_from, computed_with, computed}
-use Rattle.index_simplify.specs.Tests.{same_operation, same_variable, is_number, same_size, same, is_above, is_at_least, is_below, is_count, is_zero_beside, is_begin, is_cell, is_quotient, is_rounded, are_parts, is_known_multiple, is_multiple, is_part_of, is_base, is_part_base, is_whole_size, is_scaled_size}
+use Rattle.index_simplify.specs.Tests.{same_operation, same_variable, is_number, same_size, same, is_above, is_at_least, is_below, is_count, is_zero_beside, is_begin, is_cell, is_quotient, is_rounded, are_parts, is_known_multiple, is_multiple, is_positive, is_part_of, is_base, is_part_base, is_whole_size, is_scaled_size}
 use Rattle.index_simplify.specs.Laws.{first_part, scaled, applies, applied}
 use Rattle.index_simplify.specs.Operations.{first_law, by_law, tabled, recut, simple}
 use Rattle.index_simplify.specs.Factors.{over}
-use Rattle.index_simplify.specs.Below.{is_natural, is_passed, is_quotient_below, is_remainder_below, is_digit_below, rows_within, is_sum_below, stays_below}
+use Rattle.index_simplify.specs.Below.{is_natural, is_passed, is_quotient_below, is_remainder_below, is_digit_below, rows_within, is_sum_below, literal_sum, longer, length_before, stays_below, is_at_most}
 use Rattle.index_simplify.specs.Cells as cells
 use Rattle.index_simplify.specs.Cells.{natural_over, cell_over, cell_modulo, sum_over, sum_modulo, rows_around, remainder_over, remainder_modulo, quotient_of, remainder_of, part_of, parted_operation, parted}
-use Rattle.index_simplify.specs.Ranges.{AreMultiples}
+use Rattle.index_simplify.specs.Ranges.{AreMultiples, ArePositive}
 use Rattle.index_simplify.specs.Simplified.{HasWordLiterals}
 use Rattle.index_simplify.specs.Promises.{SameOperationsAreEqual}
 use Rattle.tidy_indices.proofs.Known.{Known}
@@ -283,6 +283,28 @@ both_of : (a b : Bool) → (if a then b else false) ≡ true → (a ≡ true) ×
 both_of true b h = (refl, h)
 both_of false b h = absurd (cc h)
 
+-- ---- so many more than a length of words is one
+sum_words : (m n : ℕ) (q : Expression) → literal_sum m n ≡ Some q → HasWordLiterals q
+sum_words m n q h = go (nat_lt (m + n) (2 ^ 32)) refl h
+  where
+    go : (b : Bool) → nat_lt (m + n) (2 ^ 32) ≡ b → option_map Literal (if b then Some (m + n) else None) ≡ Some q → HasWordLiterals q
+    go true lt e = let same : Literal (m + n) ≡ q = cc e in subst HasWordLiterals same (ltb-true (m + n) (2 ^ 32) lt)
+    go false lt e = absurd (cc e)
+
+front_words : (n : ℕ) (e q : Expression) → n < 2 ^ 32 → HasWordLiterals e → Some (Binary Sum (Literal n) e) ≡ Some q → HasWordLiterals q
+front_words n e q lt x h = subst HasWordLiterals (same_Some _ _ h) (lt, x)
+
+longer_words : (e : Expression) (n : ℕ) (q : Expression) → HasWordLiterals e → n < 2 ^ 32 → longer e n ≡ Some q → HasWordLiterals q
+longer_words (Literal m) n q x lt h = sum_words m n q h
+longer_words (Variable k l g) n q x lt h = front_words n (Variable k l g) q lt x h
+longer_words (Size k) n q x lt h = front_words n (Size k) q lt x h
+longer_words (Binary Sum (Literal m) rest) n q x lt h = go (literal_sum m n) refl h
+  where
+    go : (s : Option Expression) → literal_sum m n ≡ s → option_map (λ number. Binary Sum number rest) s ≡ Some q → HasWordLiterals q
+    go (Some number) is e = subst HasWordLiterals (same_Some _ _ e) (sum_words m n number is, x.1)
+    go None is e = absurd (cc e)
+longer_words (Binary o a b) n q x lt h = front_words n (Binary o a b) q lt x h
+
 -- by what is known of sizes alone
 module _ (facts : Known) (multiples : List ℕ) where
   abbrev Sizes : PlainRanges
@@ -328,9 +350,32 @@ module _ (facts : Known) (multiples : List ℕ) where
       absurd (cc passed)
   no_sum _ column n wide x h = absurd (cc h)
 
+  no_front : (e least taken n : Expression) (before : Option Expression) → length_before Sizes least taken n ≡ before → HasWordLiterals least → HasWordLiterals n → ((q : Expression) → HasWordLiterals q → stays_below Sizes e q ≡ true → ⊥) → is_passed (λ q. stays_below Sizes e q) before ≡ true → ⊥
+  no_front e least taken n None is x y none h = absurd (cc h)
+  no_front e (Literal m) taken n (Some q) is x y none h = none q (go (is_number m taken && is_positive Sizes n) is) h
+    where
+      go : (b : Bool) → (if b then longer n m else None) ≡ Some q → HasWordLiterals q
+      go true e = longer_words n m q y x e
+      go false e = absurd (cc e)
+  no_front e (Variable k l g) taken n (Some q) is x y none h = absurd (cc is)
+  no_front e (Size k) taken n (Some q) is x y none h = absurd (cc is)
+  no_front e (Binary o a b) taken n (Some q) is x y none h = absurd (cc is)
+
   stays_nowhere : (e n : Expression) → AreWide e → HasWordLiterals e → HasWordLiterals n → stays_below Sizes e n ≡ true → ⊥
   stays_nowhere (Binary Sum begin column) n wide x y h = no_sum begin column n (λ turns w. (wide turns w).1) x.0 h
+  stays_nowhere (Binary Difference (Binary Greatest e least) taken) n wide x y h =
+      no_front e least taken n (length_before Sizes least taken n) refl x.0.1 y (λ q z passed. stays_nowhere e q (λ turns w. (wide turns w).0.0) x.0.0 z passed) h
   stays_nowhere e n wide x y h = no_digit e n wide y h
+
+  -- nor is anything at most a number
+  never_at_most : (e last : Expression) → AreWide e → HasWordLiterals e → HasWordLiterals last → is_at_most Sizes e last ≡ true → ⊥
+  never_at_most e (Literal m) wide x y h = go (literal_sum m 1) refl h
+    where
+      go : (n : Option Expression) → literal_sum m 1 ≡ n → is_passed (λ n. stays_below Sizes e n) n ≡ true → ⊥
+      go (Some n) is h = stays_nowhere e n wide x (sum_words m 1 n is) h
+      go None is h = absurd (cc h)
+  never_at_most e (Binary Difference n one) wide x y h = stays_nowhere e n wide x y.0 (and_parts (is_number 1 one) (stays_below Sizes e n) h).1
+  never_at_most e _ wide x y h = absurd (cc h)
 
   no_cell : (row width column : Expression) → AreWide column → HasWordLiterals column → HasWordLiterals width → cells.is_cell Sizes row width column ≡ true → ⊥
   no_cell row width column wide x y h = stays_nowhere column width wide x y (both_of (is_natural row) (stays_below Sizes column width) h).1
@@ -374,6 +419,7 @@ module _ (facts : Known) (multiples : List ℕ) where
   no_part Product a b wide second x y = unless (stays_below Sizes a (Literal 1) || stays_below Sizes b (Literal 1)) (Some (Literal 0)) (λ h. ⊎_elim (stays_nowhere a (Literal 1) wide x (omega arith)) (stays_nowhere b (Literal 1) second y (omega arith)) (or_cases (stays_below Sizes a (Literal 1)) (stays_below Sizes b (Literal 1)) h))
   no_part Quotient a b wide second x y = otherwise (stays_below Sizes a b) (Some (Literal 0)) (quotient_of Sizes a b) (stays_nowhere a b wide x y) (no_quotient_of a b wide x)
   no_part Remainder a b wide second x y = otherwise (stays_below Sizes a b) (Some a) (remainder_of Sizes a b) (stays_nowhere a b wide x y) (no_remainder_of a b wide x)
+  no_part Least a b wide second x y = otherwise (is_at_most Sizes a b) (Some a) (if is_at_most Sizes b a then Some b else None) (never_at_most a b wide x y) (unless (is_at_most Sizes b a) (Some b) (never_at_most b a second y x))
   no_part _ a b wide second x y = refl
 
   parted_same : (e : Expression) → AreWide e → HasWordLiterals e → parted Sizes e ≡ e
@@ -385,7 +431,7 @@ module _ (facts : Known) (multiples : List ℕ) where
       ∙ ap (parted_operation Sizes o a) (parted_same b (λ turns w. (wide turns w).1) h.1)
       ∙ ap (λ z. unwrap_or z (Binary o a b)) (no_part o a b (λ turns w. (wide turns w).0) (λ turns w. (wide turns w).1) h.0 h.1)
 
-  module _ (ids : Ids) (loops : List ℕ) (variables : Vars) (sizes_fit : AreWords ids.sizes) (turns_fit : AreWords (turns_of ids loops)) (all : AreMultiples Sizes ids.sizes) where
+  module _ (ids : Ids) (loops : List ℕ) (variables : Vars) (sizes_fit : AreWords ids.sizes) (turns_fit : AreWords (turns_of ids loops)) (all : AreMultiples Sizes ids.sizes) (some : ArePositive Sizes ids.sizes) where
     abbrev IsWorth : Expression → ℕ → Type 0
     IsWorth e n = value ids loops variables (index_formula e) ≡ Some n
 
@@ -568,7 +614,7 @@ module _ (facts : Known) (multiples : List ℕ) where
     law_worth law.ZeroLeast o a b n x y wide h w = gives_first o Least 0 0 n a b (λ z. omega arith) (beside_zero o Least a b h) w
 
     tabled_wide : (e : Expression) → AreWide e → AreWide (tabled Sizes e)
-    tabled_wide e wide turns fit = ((facts.tabled Sizes e).stands ids.sizes turns (record { loops = λ k n h. absurd (cc h); multiples = all; own = wide turns fit })).own
+    tabled_wide e wide turns fit = ((facts.tabled Sizes e).stands ids.sizes turns (record { loops = λ k n h. absurd (cc h); multiples = all; positive = some; own = wide turns fit })).own
 
     by_worth : (o : Operation) (a b : Expression) (n : ℕ) (found : Option Law) → first_law Sizes o a b LAWS ≡ found → HasWordLiterals a → HasWordLiterals b → AreWide a → IsWorth (Binary o a b) n → IsWorth (by_law found o a b) n
     by_worth o a b n None e x y wide w = w

@@ -9,7 +9,8 @@ use Rattle.lift_tree.specs.Typing.{Declared}
 use Rattle.lift_ir.specs.AtLaunch.{shape_of}
 use Rattle.lift_ir.specs.Layouts.{Layout, Split, Join}
 use Rattle.lift_ir.specs.Types.{Shape, Ty, Scalar, PairOf, ArrayOf}
-use Rattle.lift_ir.specs.Terms.{LoadSet, Skip, Take, TakeFour, Each, Kind, Global, WorkGroup, Local, Sequential, GlobalRows, WorkGroupRows, LocalRows, Term, Bound, Source, Both, Project, Reshape, LetArray, LetElement, Map, Fold, Store, Copy, push}
+use Rattle.lift_ir.specs.Standing.{Standing, stands_for}
+use Rattle.lift_ir.specs.Terms.{LoadSet, Skip, Take, TakeFour, Each, Kind, Global, WorkGroup, Local, Sequential, GlobalRows, WorkGroupRows, LocalRows, Term, Both, Project, Reshape, LetArray, LetElement, Map, Fold, Store, Copy, push}
 use Rattle.lift_ir.specs.Scalars.{by_side}
 use Rattle.index_expr.specs.Expression.{Expression, Literal, short_nodes}
 use Rattle.length_spelling.specs.Formulas.{spelled_length}
@@ -102,17 +103,21 @@ written_through spell y to cs ns = to cs (result_nodes short_nodes (spelled_layo
 
 -- lengths are spelled so, maps have these forms, and inputs these types
 module _ {A : Type 0} (spell : A → Expression) (forms : GridForms A) (src : ℕ → Shape A) where
+  -- an input's scalars lie as its type has them, and a copy's as its own has
+  abbrev pub nodes_standing : Standing A IndexNodes
+  nodes_standing = record {
+    source = λ input. array_nodes spell (src input);
+    both = by_side (λ ns. None);
+    side = λ second x cs ns. x (second ∷ cs) ns;
+    through = read_through spell;
+    in_let = λ x. x;
+    copy = λ number space ty. array_nodes Literal ty;
+    nothing = no_index;
+  }
+
   -- what an argument's scalars may have, where the binders' have these
   abbrev pub argument_nodes : (ℕ → IndexNodes) → Term A → IndexNodes
-  argument_nodes env (Bound v) = env v
-  argument_nodes env (Source v) = array_nodes spell (src v)
-  argument_nodes env (Both zips x y) =
-      by_side (λ ns. None) (argument_nodes env x) (argument_nodes env y)
-  argument_nodes env (Project s x) = λ cs ns. argument_nodes env x (s ∷ cs) ns
-  argument_nodes env (Reshape y x) = read_through spell y (argument_nodes env x)
-  argument_nodes env (LetArray v b) = argument_nodes (push (argument_nodes env v) env) b
-  argument_nodes env (Copy space ty x) = array_nodes Literal ty
-  argument_nodes env _ = no_index
+  argument_nodes env t = stands_for nodes_standing (λ x. 0) env 0 t
 
   -- the element of an array at a turn of a map or a fold over it
   abbrev pub element_nodes : (ℕ → IndexNodes) → (array : Term A) → IndexNodes

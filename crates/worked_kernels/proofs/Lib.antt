@@ -8,3 +8,7 @@ mod FourIncrements
 mod RowIncrements
 mod TidyIndices
 mod LoweredTerms
+mod DeviceFaults
+mod DeviceAlike
+mod DeviceRuns
+mod DeviceText

@@ -9,7 +9,8 @@ use Rattle.kernel_tree.specs.Code.{Input, Output, Local, Code, End, Performs, St
 use Rattle.kernel_tree.specs.Launch.{Launch, Cells, ids_of, item_count, groups_across, group_of, group_count}
 use Rattle.kernel_tree.specs.Device.{Cell, GlobalFence, LocalFence, fence_of, row}
 use Rattle.kernel_tree.proofs.Grouping.{group_in_launch, in_launch, flat_items, flat_groups, flat_group}
-use Rattle.kernel_tree.proofs.Stride.{turns_of, turn_below, turn_owner, owner_turn, owner_has}
+use Rattle.kernel_tree.specs.Strides.{turns_of}
+use Rattle.kernel_tree.proofs.Stride.{turn_below, turn_owner, owner_turn, owner_has}
 use Rattle.barrier_placement.specs.Fencing.{Fencing}
 use Rattle.lift_ir.specs.Types.{Scalar, ArrayOf, IsPosition}
 use Rattle.group_phases.specs.Cells.{input_cell, output_cell, local_cell, IsGivenInput, IsOwnOutput}

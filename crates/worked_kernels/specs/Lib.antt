@@ -3,3 +3,7 @@ pub mod Groups
 pub mod Kernels
 pub mod Indices
 pub mod Terms
+pub mod DeviceKernels
+pub mod DeviceAlike
+pub mod DeviceRuns
+pub mod DeviceText

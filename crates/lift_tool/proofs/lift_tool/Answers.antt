@@ -113,4 +113,4 @@ returns-in-Ok-write_whole-clause-alike g c = λ done.
     let ok = c.in-Ok.ensures.ok in
     let taken =
     subst (λ (bytes : List ℕ). Appends (g.O.Sink.taken c.args.out.now) (g.O.Sink.taken c.write_whole.new.sink) bytes) c.as_slice.ensures.value c.in-Ok-write_whole.ensures.all in
-    (ok.0, ok.1, (ok.2.0, ok.2.1, (_, lines_of_written c.texts_run_alike.ensures c.texts_have_costs.ensures ok.0 ok.2.0 _ ok.2.2, taken)))
+    (ok.0, ok.1, (ok.2.0, ok.2.1, (_, lines_of_written c.texts_run_alike.ensures c.texts_have_costs.ensures c.sequences_run_alike.ensures ok.0 ok.2.0 _ ok.2.2, taken)))

@@ -18,14 +18,14 @@ returns-in_err-buffers-clause-refused c =
     let local = size_fixed c.args.local in
     let l = c.args.lowered in
     let mapped = c.in_ok-mapped.ensures in
-    let same = ap (λ (m : Mapped). m.lowered) c.in_ok-spaced.ensures ∙ mapped.legal in
-    let legal = legal_nest c.legal_without_fault.ensures local _ l _ mapped.size mapped.legal c.in_ok-mapped.mapped.legal in
+    let same = ap (λ (m : Mapped). m.lowered) c.in_ok-spaced.ensures ∙ mapped.kept in
+    let legal = legal_nest c.legal_without_fault.ensures local _ l _ mapped.size mapped.kept c.in_ok-mapped.mapped.legal in
     handed_on (StopsFor (CompilesTerm local (lowered_state l))) _ _ c.from_residual-in_err-buffers.ensures.1
     (at_buffers local (lowered_state l) _ legal (buffers_stop l _ _ same c.in_err-buffers.ensures.refused))
 
 pub returns-clause-placed : goal.returns-clause-placed
 returns-clause-placed c = record {
-  lowered = ap (λ (m : Mapped). m.lowered) c.in_ok-spaced.ensures ∙ c.in_ok-mapped.ensures.legal;
+  lowered = ap (λ (m : Mapped). m.lowered) c.in_ok-spaced.ensures ∙ c.in_ok-mapped.ensures.kept;
   fixed = ap (λ (m : Mapped). m.local) c.in_ok-spaced.ensures ∙ c.in_ok-mapped.ensures.size;
   arrays = record { within = c.in_ok-buffers.ensures.within; local = c.in_ok-buffers.ensures.local; private = c.in_ok-buffers.ensures.private };
 }
@@ -35,5 +35,5 @@ returns-clause-compiles c =
     let local = size_fixed c.args.local in
     let l = c.args.lowered in
     let mapped = c.in_ok-mapped.ensures in
-    let same = ap (λ (m : Mapped). m.lowered) c.in_ok-spaced.ensures ∙ mapped.legal in
-    compiles local (lowered_state l) (legal_nest c.legal_without_fault.ensures local _ l _ mapped.size mapped.legal c.in_ok-mapped.mapped.legal) (within_is l _ same c.in_ok-buffers.ensures.within)
+    let same = ap (λ (m : Mapped). m.lowered) c.in_ok-spaced.ensures ∙ mapped.kept in
+    compiles local (lowered_state l) (legal_nest c.legal_without_fault.ensures local _ l _ mapped.size mapped.kept c.in_ok-mapped.mapped.legal) (within_is l _ same c.in_ok-buffers.ensures.within)

@@ -1,4 +1,4 @@
-use Rattle.std.proofs.Common.{Ok, [], ◌∷◌, ap, inl, refl, subst, sym}
+use Rattle.std.proofs.Common.{Ok, [], ◌∷◌, inl, refl, subst, sym}
 use Rattle.lift_tree.specs.Launches.{Asks}
 use Rattle.lift_tree.specs.Programs.{program_of}
 use Rattle.lift_tree.specs.Types.{ty_of}
