@@ -10,9 +10,8 @@ Files of 16 MB, the most that a launch file may have:
 - two million objects `{"a":1}` that nobody asks for;
 - 2.4 million numbers, as the input.
 
-Each line has the least processor time of three calls, and the most memory that one took, both as GNU's time tells them. The file
-is read by `serde_json` before any of it is looked at, so what nobody asks for is read as well; what that takes alone is the second
-line and the third.
+Each line has the least processor time of three calls, and the most memory that one took, both as GNU's time tells them. What
+nobody asks for is checked and left out, so the second line and the third are what the file's bytes take.
 """
 import subprocess
 import tempfile

@@ -2,27 +2,19 @@
 use Rattle.std.proofs.Common.{◌≡◌, ℕ, Bool, refl}
 use Rattle.kernel_tree.specs.declared.tree.Dimension.TheVariants.{X, Y}
 use Rattle.kernel_tree.specs.Formula.{Formula}
-use Rattle.kernel_tree.specs.Code.{Code, FromGroupId, FromLocalId, ByGroupCount, ByLocalSize}
-use Rattle.lift_ir.specs.Terms.{Kind, Local, LoadSet, Term, LetArray, Map, push}
+use Rattle.kernel_tree.specs.Code.{Code, FromGroupId, ByGroupCount}
+use Rattle.lift_ir.specs.Terms.{Kind, LoadSet, Term, LetArray, Map, push}
 use Rattle.printed_form.specs.Arguments.{argument_view, private_arrays, local_arrays}
-use Rattle.printed_form.specs.Counts.{Count, more, no_variables, load_count}
-use Rattle.printed_form.specs.MapForms.{MapForm, Looped, Guarded, Alone, form_over_groups}
-use Rattle.printed_form.specs.Printer.{print_loaded, print_written}
+use Rattle.printed_form.specs.Counts.{Count, no_variables, load_count}
+use Rattle.printed_form.specs.MapForms.{form_over_groups, statement_of}
+use Rattle.printed_form.specs.Printer.{print_loaded}
 use Rattle.printed_form.specs.Views.{View, loaded_view, view_at}
 use Rattle.barrier_placement.specs.Fencing.{Fencing}
 use Rattle.group_phases.specs.Epochs.{fenced}
-use Rattle.group_phases.specs.Strides.{statement_of}
 use Rattle.group_form.specs.Form.{Used, used_after}
 use Rattle.group_form.specs.GridTerms.{GridForms}
-use Rattle.group_form.specs.GridPrinter.{print_along_groups, print_along_row, print_grid, print_grid_argument, print_grid_turn, print_grid_written, print_local_nest, print_turns_from, turn_from}
-use Rattle.group_form.specs.Printer.{depth_in, print_local_map, print_turns, turn_formula}
-
--- a local map is along a row
-along_row : (f : MapForm) (depth : ℕ) (bound : Formula) (turn : Formula → ℕ → Code → Code) (rest : Code)
-    → print_turns f Local bound (turn (turn_formula f Local depth) (depth_in f depth)) rest ≡ print_turns_from f (FromLocalId X) (ByLocalSize X) bound (turn (turn_from f (FromLocalId X) depth) (depth_in f depth)) rest
-along_row Looped depth bound turn rest = refl
-along_row Guarded depth bound turn rest = refl
-along_row Alone depth bound turn rest = refl
+use Rattle.group_form.specs.GridPrinter.{print_along_groups, print_along_row, print_grid, print_grid_argument, print_grid_turn, print_grid_written, print_local_nest}
+use Rattle.group_form.specs.Printer.{depth_in, print_local_map, turn_from}
 
 module _ {A : Type 0} (spell : A → Formula) (forms : GridForms A) (ins : ℕ → View) (fence : ℕ → Fencing) (depth : ℕ) (env : ℕ → View) (u : Used) where
   pub row_map : (k : Kind) (n : A) (loads : LoadSet) (xs b t : Term A) (w : View) (rest code : Code) (array : View) (after : Used) → t ≡ Map k n loads xs b → array ≡ argument_view local_arrays spell ins env u.locals xs → after ≡ used_after u xs
@@ -31,8 +23,7 @@ module _ {A : Type 0} (spell : A → Formula) (forms : GridForms A) (ins : ℕ �
   row_map k n loads xs b t w rest code array after et ev ea ec =
       let x = argument_view local_arrays spell ins env u.locals xs in
       let v = (used_after u xs).variables in
-      rw (ec, ev, ea, et)
-      (along_row (forms.columns.local n) depth (spell n) (λ turn inner next. print_loaded loads (view_at turn x) v (print_written spell ins inner (push (loaded_view loads (view_at turn x) v) env) (used_after u xs).privates (more v (load_count loads)) b (view_at turn w) next)) rest)
+      rw (ec, ev, ea, et) refl
 
   pub argument_let : (v b : Term A) (rest code : Code) (bound : View) (after : Used) → bound ≡ argument_view local_arrays spell ins env u.locals v → after ≡ used_after u v
       → code ≡ print_grid_argument spell forms ins fence depth (push bound env) after b rest → print_grid_argument spell forms ins fence depth env u v code ≡ print_grid_argument spell forms ins fence depth env u (LetArray v b) rest

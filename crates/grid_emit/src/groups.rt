@@ -2,14 +2,13 @@
 
 ghost use Rattle.std.specs.Prelude.{◌≡◌, IfOk};
 ghost use Rattle.group_form.specs.GridPrinter as printer;
-ghost use Rattle.group_form.specs.Printer.{depth_in};
-ghost use Rattle.group_phases.specs.Strides.{statement_of};
+ghost use Rattle.group_form.specs.Printer.{depth_in, turn_from};
 ghost use Rattle.kernel_tree.specs.Code.{FromGroupId, ByGroupCount};
 ghost use Rattle.kernel_tree.specs.Tree.{formula_of};
 ghost use Rattle.length_spelling.specs.Turns.{number_of, turn_formula};
 ghost use Rattle.lift_ir.specs.Terms.{push};
 ghost use Rattle.printed_form.specs.Counts.{load_count, no_variables};
-ghost use Rattle.printed_form.specs.MapForms.{form_over_groups};
+ghost use Rattle.printed_form.specs.MapForms.{form_over_groups, statement_of};
 ghost use Rattle.printed_form.specs.Printer.{print_loaded};
 ghost use Rattle.printed_form.specs.Views.{loaded_view};
 ghost use Rattle.array_views.specs.Counts.{count_of};
@@ -50,7 +49,7 @@ struct Row<'s> {
 // stands within so many.
 fn turn_over_groups(once: bool, dimension: Dimension, depth: u32) -> Turn
     ensures { turn_formula (number_of result)
-        ≡ printer.turn_from (form_over_groups once) (FromGroupId dimension) depth }
+        ≡ turn_from (form_over_groups once) (FromGroupId dimension) depth }
 {
     if once {
         Turn::Group(dimension)

@@ -4,7 +4,7 @@
 ghost use Rattle.std.specs.Prelude.{◌≡◌, IfOk, OnOk};
 ghost use Rattle.group_form.specs.ChosenForms.{form_of};
 ghost use Rattle.group_form.specs.GridPrinter as printer;
-ghost use Rattle.group_form.specs.Printer.{depth_in};
+ghost use Rattle.group_form.specs.Printer.{depth_in, turn_from};
 ghost use Rattle.kernel_tree.specs.Code.{End, FromLocalId};
 ghost use Rattle.kernel_tree.specs.declared.tree.Dimension.TheVariants.{Y};
 ghost use Rattle.length_spelling.specs.Turns.{number_of, turn_formula};
@@ -105,7 +105,7 @@ fn put_along_row(
 // A row of a local map in this form.
 fn row_turn(form: MapForm, depth: u32) -> Turn
     ensures { turn_formula (number_of result)
-        ≡ printer.turn_from (form_of form) (FromLocalId Y) depth }
+        ≡ turn_from (form_of form) (FromLocalId Y) depth }
 {
     match form {
         MapForm::Looped => Turn::Loop(depth),
@@ -127,7 +127,7 @@ fn put_row(
     ensures { OnOk result (let form = (grid_forms_in setting.now).rows.local map.now.length in
         code_in block.new ≡ printer.print_row (spell_of setting.now)
         (grid_forms_in setting.now) (inputs_of setting.now) (fence_in setting.now)
-        (printer.turn_from form (FromLocalId Y) site.now.depth) (depth_in form site.now.depth)
+        (turn_from form (FromLocalId Y) site.now.depth) (depth_in form site.now.depth)
         (scope_of site.now.scope.now) (used_of site.now.used) (load_set_of map.now.loads)
         (view_in array.now) (term_of map.now.body) (view_in target.now) (code_in block.old)) }
 {
@@ -162,7 +162,7 @@ fn row_block(
     ensures { IfOk result (λ b. let form = (grid_forms_in setting.now).rows.local map.now.length in
         code_in b ≡ printer.print_row (spell_of setting.now)
         (grid_forms_in setting.now) (inputs_of setting.now) (fence_in setting.now)
-        (printer.turn_from form (FromLocalId Y) site.now.depth) (depth_in form site.now.depth)
+        (turn_from form (FromLocalId Y) site.now.depth) (depth_in form site.now.depth)
         (scope_of site.now.scope.now) (used_of site.now.used) (load_set_of map.now.loads)
         (view_in array.now) (term_of map.now.body) (view_in target.now) End) }
 {

@@ -1,8 +1,10 @@
 -- The printed code of a term outside local maps, of that of its parts.
 use Rattle.std.proofs.Common.{◌≡◌, ℕ, Bool, refl}
+use Rattle.lift_tree.specs.declared.term.Level.TheVariants.{Groups}
+use Rattle.lift_tree.specs.declared.term.Dimension.TheVariants.{X}
 use Rattle.kernel_tree.specs.Formula.{Formula}
 use Rattle.kernel_tree.specs.Code.{Code}
-use Rattle.lift_ir.specs.Terms.{Kind, WorkGroup, LoadSet, Term, LetArray, Map, push}
+use Rattle.lift_ir.specs.Terms.{Kind, Over, LoadSet, Term, LetArray, Map, push}
 use Rattle.printed_form.specs.Arguments.{argument_view, private_arrays, local_arrays}
 use Rattle.printed_form.specs.MapForms.{MapForms, form_over_groups, statement_over_groups}
 use Rattle.printed_form.specs.Views.{View, view_at}
@@ -27,7 +29,7 @@ module _ {A : Type 0} (spell : A → Formula) (forms : MapForms A) (ins : ℕ �
   -- a map over groups, by what stands for its turn
   pub over_groups :
       (k : Kind) (n : A) (loads : LoadSet) (xs b : Term A) (w : View) (once : Bool) (turn : Formula) (array element to : View) (within : ℕ) (code : Code) (length : Formula)
-      → once ≡ forms.once n → turn ≡ turn_formula (form_over_groups once) WorkGroup 0 → array ≡ argument_view private_arrays spell ins env 0 xs → element ≡ view_at turn array → to ≡ view_at turn w
+      → once ≡ forms.once n → turn ≡ turn_formula (form_over_groups once) (Over Groups X) 0 → array ≡ argument_view private_arrays spell ins env 0 xs → element ≡ view_at turn array → to ≡ view_at turn w
       → within ≡ depth_in (form_over_groups once) 0 → code ≡ print_group_turn spell forms ins fence within env loads element b to → length ≡ spell n
-      → statement_over_groups once length code ≡ print_groups spell forms ins fence env (Map k n loads xs b) w
+      → statement_over_groups X once length code ≡ print_groups spell forms ins fence env (Map k n loads xs b) w
   over_groups k n loads xs b w once turn array element to within code length eo et ea ee ew ed ec el = rw (ec, el, ed, ee, ew, ea, et, eo) refl

@@ -4,7 +4,9 @@ ghost use Rattle.std.specs.Prelude.{◌≡◌, IfOk};
 ghost use Rattle.group_form.specs.Printer as printer;
 ghost use Rattle.kernel_tree.specs.Tree.{formula_of};
 ghost use Rattle.length_spelling.specs.Turns.{number_of, turn_formula};
-ghost use Rattle.lift_ir.specs.Terms.{WorkGroup};
+ghost use Rattle.lift_tree.specs.declared.term.Dimension.TheVariants.{X};
+ghost use Rattle.lift_tree.specs.declared.term.Level.TheVariants.{Groups};
+ghost use Rattle.lift_ir.specs.Terms.{Over};
 ghost use Rattle.printed_form.specs.MapForms as map_forms;
 ghost use Rattle.printed_form.specs.MapForms.{form_over_groups};
 ghost use Rattle.array_views.specs.Views.{view_in};
@@ -33,7 +35,7 @@ use std::alloc::{AllocError, Global};
 // own.
 fn turn_over_groups(once: bool) -> Turn
     ensures { turn_formula (number_of result)
-        ≡ printer.turn_formula (form_over_groups once) WorkGroup 0 }
+        ≡ printer.turn_formula (form_over_groups once) (Over Groups X) 0 }
 {
     if once {
         Turn::Group(Dimension::X)
@@ -57,7 +59,7 @@ fn statement_over_groups(
     turn: Block,
 ) -> Result<Block, AllocError>
     ensures { IfOk result (λ b. code_in b
-        ≡ map_forms.statement_over_groups once (formula_of length) (code_in turn)) }
+        ≡ map_forms.statement_over_groups X once (formula_of length) (code_in turn)) }
 {
     let start = Start::GroupId(Dimension::X);
     let mut block = Block::new(alloc);

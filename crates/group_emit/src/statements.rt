@@ -6,9 +6,10 @@ ghost use Rattle.group_form.specs.ChosenForms.{form_of};
 ghost use Rattle.group_form.specs.Printer as printer;
 ghost use Rattle.kernel_tree.specs.Code.{End};
 ghost use Rattle.length_spelling.specs.Turns.{number_of, turn_formula};
+ghost use Rattle.lift_tree.specs.declared.term.Dimension.TheVariants.{X};
+ghost use Rattle.lift_tree.specs.declared.term.Level.TheVariants.{Items};
 ghost use Rattle.printed_form.specs.Arguments.{argument_view, local_arrays};
 ghost use Rattle.lift_ir.specs.Terms as terms;
-ghost use Rattle.lift_ir.specs.Terms.{Local};
 ghost use Rattle.array_views.specs.Views.{view_in};
 ghost use Rattle.lowering.specs.Terms.{load_set_of, map_of, term_of};
 ghost use Rattle.item_emit.specs.Blocks.{code_in};
@@ -67,7 +68,8 @@ impl Site<'_> {
 
 // A turn of a local map in this form.
 fn local_turn(form: MapForm, depth: u32) -> Turn
-    ensures { turn_formula (number_of result) ≡ printer.turn_formula (form_of form) Local depth }
+    ensures { turn_formula (number_of result)
+        ≡ printer.turn_formula (form_of form) (terms.Over Items X) depth }
 {
     match form {
         MapForm::Looped => Turn::Loop(depth),

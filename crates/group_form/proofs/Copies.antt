@@ -2,10 +2,12 @@
 use Rattle.std.proofs.Common.{◌≡◌, ℕ, ◌+◌, List, [], ◌++◌, length, Bool, true, false, refl, ap, ◌∙◌, arith}
 use Rattle.std.specs.Prelude.{replicate}
 use Rattle.std.proofs.lemmas.List.{length-replicate, get_or-replicate}
+use Rattle.lift_tree.specs.declared.term.Level.TheVariants.{Launch, Items}
+use Rattle.lift_tree.specs.declared.term.Dimension.TheVariants.{X, Y}
 use Rattle.kernel_tree.specs.Code.{Array, Local as LocalArray}
 use Rattle.lift_ir.specs.Types.{width, size}
 use Rattle.lift_ir.specs.Forms.{Stands, StandsAlongRow, StandsOverLaunch}
-use Rattle.lift_ir.specs.Terms.{Global, GlobalRows, Local, Sequential, Space, LocalMemory, PrivateMemory, Term, Bound, Source, Both, Project, Reshape, LetArray, LetElement, Map, Fold, Store, Copy}
+use Rattle.lift_ir.specs.Terms.{Over, Sequential, Space, LocalMemory, PrivateMemory, Term, Bound, Source, Both, Project, Reshape, LetArray, LetElement, Map, Fold, Store, Copy}
 use Rattle.printed_form.specs.Counts.{private_count, copy_lengths, local_count}
 use Rattle.printed_form.proofs.Lengths.{AreLong, joined, long_left, long_right}
 use Rattle.group_form.specs.Forms.{StandsInGroup, IsOfInputs}
@@ -34,22 +36,22 @@ no_copies _ _ f = absurd (assumption)
 -- nor has a map along a row
 along_no_copies : {A : Type 0} (t : Term A) → StandsAlongRow t → copy_lengths LocalMemory t ≡ []
 along_no_copies (Reshape y t) f = along_no_copies t f.1
-along_no_copies (Map Global n loads xs b) f = both_empty (copy_lengths LocalMemory xs) (copy_lengths LocalMemory b) (no_copies false xs f.0) (no_copies true b f.1)
+along_no_copies (Map (Over Launch X) n loads xs b) f = both_empty (copy_lengths LocalMemory xs) (copy_lengths LocalMemory b) (no_copies false xs f.0) (no_copies true b f.1)
 along_no_copies _ f = absurd f
 
 -- nor a term over the launch
 pub launch_no_copies : {A : Type 0} (t : Term A) → StandsOverLaunch t → copy_lengths LocalMemory t ≡ []
 launch_no_copies (Reshape y t) f = launch_no_copies t f.1
 launch_no_copies (LetArray v b) f = both_empty (copy_lengths LocalMemory v) (copy_lengths LocalMemory b) (no_copies false v f.0) (launch_no_copies b f.1)
-launch_no_copies (Map Global n loads xs b) f = both_empty (copy_lengths LocalMemory xs) (copy_lengths LocalMemory b) (no_copies false xs f.0) (no_copies true b f.1)
-launch_no_copies (Map GlobalRows n loads xs b) f = both_empty (copy_lengths LocalMemory xs) (copy_lengths LocalMemory b) (no_copies false xs f.0) (along_no_copies b f.1)
+launch_no_copies (Map (Over Launch X) n loads xs b) f = both_empty (copy_lengths LocalMemory xs) (copy_lengths LocalMemory b) (no_copies false xs f.0) (no_copies true b f.1)
+launch_no_copies (Map (Over Launch Y) n loads xs b) f = both_empty (copy_lengths LocalMemory xs) (copy_lengths LocalMemory b) (no_copies false xs f.0) (along_no_copies b f.1)
 launch_no_copies _ f = absurd f
 
 -- as many local arrays are declared as are counted
 pub counted : {A : Type 0} (written : Bool) (t : Term A) → StandsInGroup written t → length (copy_lengths LocalMemory t) ≡ local_count t
 counted true (Reshape y t) f = counted true t f.1
 counted true (LetArray v b) f = joined (local_count v) (local_count b) (copy_lengths LocalMemory v) (copy_lengths LocalMemory b) (counted false v f.0) (counted true b f.1)
-counted true (Map Local n loads xs b) f = let e = joined (local_count xs) 0 (copy_lengths LocalMemory xs) (copy_lengths LocalMemory b) (counted false xs f.0) (ap length (no_copies true b f.1)) in omega arith
+counted true (Map (Over Items X) n loads xs b) f = let e = joined (local_count xs) 0 (copy_lengths LocalMemory xs) (copy_lengths LocalMemory b) (counted false xs f.0) (ap length (no_copies true b f.1)) in omega arith
 counted false (Bound v) f = refl
 counted false (Source v) f = refl
 counted false (Both true a b) f = joined (local_count a) (local_count b) (copy_lengths LocalMemory a) (copy_lengths LocalMemory b) (counted false a f.0) (counted false b f.1)
@@ -65,7 +67,7 @@ declares_locals long true k (LetArray v b) f h =
     let xs = copy_lengths LocalMemory v in
     let ys = copy_lengths LocalMemory b in
     (declares_locals long false k v f.0 (long_left LocalArray long k xs ys h), declares_locals long true (k + local_count v) b f.1 (long_right LocalArray long k (local_count v) xs ys (counted false v f.0) h))
-declares_locals long true k (Map Local n loads xs b) f h = declares_locals long false k xs f.0 (long_left LocalArray long k (copy_lengths LocalMemory xs) (copy_lengths LocalMemory b) h)
+declares_locals long true k (Map (Over Items X) n loads xs b) f h = declares_locals long false k xs f.0 (long_left LocalArray long k (copy_lengths LocalMemory xs) (copy_lengths LocalMemory b) h)
 declares_locals long false k (Bound v) f h = tt
 declares_locals long false k (Source v) f h = tt
 declares_locals long false k (Both true a b) f h =

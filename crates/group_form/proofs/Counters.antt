@@ -1,9 +1,11 @@
 -- Local arrays are numbered in the order in which phases fill them.
 use Rattle.std.proofs.Common.{◌≡◌, ℕ, zero, suc, ◌+◌, ◌<◌, ◌≤◌, List, [], ◌∷◌, ◌++◌, length, Bool, true, false, refl, sym, ap, ◌∙◌, subst, arith}
 use Rattle.std.proofs.lemmas.Bool.{lt-ltb, le-ltb}
+use Rattle.lift_tree.specs.declared.term.Level.TheVariants.{Items}
+use Rattle.lift_tree.specs.declared.term.Dimension.TheVariants.{X}
 use Rattle.lift_ir.specs.Types.{Ty, PairOf, ArrayOf, width}
 use Rattle.lift_ir.specs.Layouts.{operand_position, result_position}
-use Rattle.lift_ir.specs.Terms.{Local, LocalMemory, Term, Bound, Source, Both, Project, Reshape, LetArray, Map, Copy, HasType}
+use Rattle.lift_ir.specs.Terms.{Over, LocalMemory, Term, Bound, Source, Both, Project, Reshape, LetArray, Map, Copy, HasType}
 use Rattle.lift_ir.specs.Scalars.{Scalars}
 use Rattle.printed_form.specs.Counts.{local_count}
 use Rattle.printed_form.specs.MapForms.{MapForms}
@@ -115,7 +117,7 @@ module _ {A : Type 0} (num : A → ℕ) (forms : MapForms A) (ins : ℕ → Mark
         let one = argument_chain v s h.0 h.1 f.0 in
         let two = written_chain b (bind s v h.0) ty h.2 d outer path direct f.1 (subst (λ z. FirstIs z d) sum first) in
         join_chains s.locals (s.locals + local_count v) (next (s.locals + (local_count v + local_count b)) d) (argument_stages s v h.0 h.1) (written_stages (bind s v h.0) b ty h.2 d outer path direct) one.0 one.1 two.0 (two.1 ∙ ap (λ z. next z d) (sym sum))
-    written_chain (Map Local n loads xs b) s ty h d outer path direct f first =
+    written_chain (Map (Over Items X) n loads xs b) s ty h d outer path direct f first =
         let one = argument_chain xs s (ArrayOf (num n) h.0) h.4 f.0 in
         join_chains s.locals (s.locals + local_count xs) (next (s.locals + local_count xs) d) (argument_stages s xs (ArrayOf (num n) h.0) h.4) (stages.stage_of num forms ins src sources s n loads xs b h.0 h.1 d outer path direct ∷ []) one.0 one.1 (refl, first, tt) refl
     written_chain _ s ty h d outer path direct f first = absurd (assumption)

@@ -1,5 +1,7 @@
 -- Code that is printed for a map over work-groups is printed for its phases.
 use Rattle.std.proofs.Common.{◌≡◌, ℕ, zero, suc, ◌+◌, ◌<◌, List, [], ◌∷◌, length, Bool, true, false, refl, sym, subst, arith}
+use Rattle.lift_tree.specs.declared.term.Level.TheVariants.{Groups, Items}
+use Rattle.lift_tree.specs.declared.term.Dimension.TheVariants.{X}
 use Rattle.kernel_tree.specs.Code.{Code, End}
 use Rattle.kernel_tree.specs.Launch.{Launch, Cells, item_count}
 use Rattle.barrier_placement.specs.declared.touches.Touch.{Touch}
@@ -7,7 +9,7 @@ use Rattle.barrier_placement.specs.Fencing.{Fencing, Open, Fenced, stands}
 use Rattle.barrier_placement.specs.Needed.{Needed}
 use Rattle.lift_ir.specs.Types.{Ty, PairOf, ArrayOf}
 use Rattle.lift_ir.specs.Layouts.{operand_position, result_position}
-use Rattle.lift_ir.specs.Terms.{WorkGroup, Local, LocalMemory, Term, Bound, Source, Both, Project, Reshape, LetArray, Map, Copy, push, HasType}
+use Rattle.lift_ir.specs.Terms.{Over, LocalMemory, Term, Bound, Source, Both, Project, Reshape, LetArray, Map, Copy, push, HasType}
 use Rattle.lift_ir.specs.Scalars.{at_index}
 use Rattle.printed_form.specs.Counts.{more, no_variables, load_count, local_count}
 use Rattle.printed_form.specs.Marks.{Marks, loaded_marks}
@@ -80,8 +82,8 @@ module _ {A : Type 0} (num : A → ℕ) (l : Launch) (c : Cells) (wanted : List 
   -- the map of a stage, at every turn
   abbrev MapOf : Stage A → Code → Code → Type 0
   MapOf s code rest =
-      (item i : ℕ) → item < item_count l → i < b.turns → IsTurnOf l item WorkGroup i
-      → AreTurns l item b.ins s.phase.form Local (variables_in (form_over_groups b.once) [] i) s.phase.len
+      (item i : ℕ) → item < item_count l → i < b.turns → IsTurnOf l item (Over Groups X) i
+      → AreTurns l item b.ins s.phase.form (Over Items X) (variables_in (form_over_groups b.once) [] i) s.phase.len
       (λ ts j body last. (inner : Code) × IsLoaded l item b.ins ts s.phase.loads (at_index j (s.marks i)) s.phase.variables body inner
       × IsWritten l item b.ins num ts (push (loaded_marks s.phase.loads (at_index j (s.marks i)) s.phase.variables) (s.env i)) s.phase.privates (more s.phase.variables (load_count s.phase.loads)) s.phase.body (at_index j (goes_to b.out i s)) inner last)
       code rest
@@ -113,7 +115,7 @@ module _ {A : Type 0} (num : A → ℕ) (l : Launch) (c : Cells) (wanted : List 
         let two = written_count x (bind s v h.0) ty h.2 d outer path direct f.1 in
         let sum = long_append (argument_stages s v h.0 h.1) (written_stages (bind s v h.0) x ty h.2 d outer path direct) in
         omega arith
-    written_count (Map Local n loads xs body) s ty h d outer path direct f =
+    written_count (Map (Over Items X) n loads xs body) s ty h d outer path direct f =
         let one = argument_count xs s (ArrayOf (num n) h.0) h.4 f.0 in
         let sum = long_append (argument_stages s xs (ArrayOf (num n) h.0) h.4) (stages.stage_of num b.forms b.ins b.src b.sources s n loads xs body h.0 h.1 d outer path direct ∷ []) in
         omega arith
@@ -155,7 +157,7 @@ module _ {A : Type 0} (num : A → ℕ) (l : Launch) (c : Cells) (wanted : List 
         let one = argument_phases v s h.0 h.1 q n code x.0 e f.0 (each_left (λ r t. stage_at b.stages r ≡ t) q xs ys is) x.1 in
         let two = written_phases y t ty h.2 d outer path direct (q + length xs) (n + phases_in v) x.0 rest (omega arith) f.1 (each_right (λ r t. stage_at b.stages r ≡ t) q xs ys is) x.2 in
         subst (λ z. Between q z code rest) (sym (long_append xs ys)) (between_append q (length xs) (length ys) code x.0 rest one two)
-    written_phases (Map Local m loads xs body) s ty h d outer path direct q n code rest e f is x =
+    written_phases (Map (Over Items X) m loads xs body) s ty h d outer path direct q n code rest e f is x =
         let ss = argument_stages s xs (ArrayOf (num m) h.0) h.4 in
         let t = stages.stage_of num b.forms b.ins b.src b.sources s m loads xs body h.0 h.1 d outer path direct in
         let r = q + length ss in
@@ -172,7 +174,7 @@ module _ {A : Type 0} (num : A → ℕ) (l : Launch) (c : Cells) (wanted : List 
   from_between q (suc m) code last x y = let e : suc q + suc m ≡ suc (suc q) + m = omega arith in (x.0, x.1, x.2, x.3, from_between (suc q) m x.1 last x.4 (subst (λ z. IsPast (fence z) last End) e y))
 
   -- with the loads of the turn's scalars
-  pub are_phases : (m : ℕ) (body first last : Code) → fence 0 ≡ Open → 0 < m → ((item i : ℕ) → item < item_count l → i < b.turns → IsTurnOf l item WorkGroup i → IsLoaded l item b.ins (variables_in (form_over_groups b.once) [] i) b.top.loads (b.top.marks i) no_variables body first) → Between 0 m first last → IsPast (fence m) last End → ArePhases fence (IsPhase num l p) 0 m body
+  pub are_phases : (m : ℕ) (body first last : Code) → fence 0 ≡ Open → 0 < m → ((item i : ℕ) → item < item_count l → i < b.turns → IsTurnOf l item (Over Groups X) i → IsLoaded l item b.ins (variables_in (form_over_groups b.once) [] i) b.top.loads (b.top.marks i) no_variables body first) → Between 0 m first last → IsPast (fence m) last End → ArePhases fence (IsPhase num l p) 0 m body
   are_phases zero body first last none some loads x y = absurd (omega arith)
   are_phases (suc m) body first last none some loads x y =
       let same : first ≡ x.0 = subst (λ z. IsPast z first x.0) none x.2 in

@@ -2,25 +2,26 @@
 use Rattle.std.proofs.Common.{◌≡◌, ℕ, ◌+◌, ◌*◌, ◌/◌, ◌%◌, ◌<◌, ◌≤◌, Bool, true, false, List, [], ◌∷◌, ◌++◌, refl, sym, subst, arith}
 use Rattle.std.proofs.Math.Nat.{mod-lt}
 use Rattle.std.proofs.lemmas.Nat.{div-mul-add, mod-mul-add}
+use Rattle.lift_tree.specs.declared.term.Level.TheVariants.{Groups, Items}
+use Rattle.lift_tree.specs.declared.term.Dimension.TheVariants as dimension
 use Rattle.kernel_tree.specs.declared.tree.Dimension.TheVariants.{X, Y}
 use Rattle.kernel_tree.specs.Formula.{Formula}
 use Rattle.kernel_tree.specs.Code.{FromGroupId, FromLocalId, ByGroupCount, ByLocalSize, Start, Stride, Local as LocalArray, Code, End, Loops, Guards, start_value, stride_value}
 use Rattle.kernel_tree.specs.Launch.{Launch, IsWhole, item_count, ids_of, column_of, row_of}
 use Rattle.barrier_placement.specs.Fencing.{Fencing}
-use Rattle.lift_ir.specs.Terms.{LoadSet, WorkGroup, Local, WorkGroupRows, LocalRows, LocalMemory, Term, Bound, Source, Both, Project, Reshape, LetArray, Map, Copy, push}
+use Rattle.lift_ir.specs.Terms.{LoadSet, Over, LocalMemory, Term, Bound, Source, Both, Project, Reshape, LetArray, Map, Copy, push}
 use Rattle.lift_ir.specs.Scalars.{at_index}
 use Rattle.lift_ir.specs.Layouts.{result_position}
 use Rattle.printed_form.specs.Arguments.{marks_in, local_arrays}
 use Rattle.printed_form.specs.Counts.{Count, more, no_variables, load_count, variable_count, private_count, local_count}
 use Rattle.printed_form.specs.Form.{IsTurn, IsLength, argument_marks}
-use Rattle.printed_form.specs.MapForms.{MapForm, Looped, Guarded, Alone, TurnCode, form_over_groups, variables_in}
+use Rattle.printed_form.specs.MapForms.{MapForm, Looped, Guarded, Alone, TurnCode, form_over_groups, variables_in, AreTurnsFrom, statement_of}
 use Rattle.printed_form.specs.Marks.{Marks, laid_in, loaded_marks}
 use Rattle.printed_form.specs.Alike.{Alike}
 use Rattle.printed_form.specs.Whole.{no_marks}
 use Rattle.printed_form.proofs.Alike.{alike_by, alike_written}
 use Rattle.group_phases.specs.GridPhases.{IsGroupRow, IsGroupColumn}
 use Rattle.group_phases.specs.Grids.{Grid, places}
-use Rattle.group_phases.specs.Strides.{AreTurnsFrom, statement_of}
 use Rattle.group_phases.proofs.Grids.{pair_below}
 use Rattle.group_form.specs.Form.{Used, used_after}
 use Rattle.group_form.specs.GridForm.{IsAlongRow, IsLocalNest, IsGridArgument, IsGridWritten, IsGridTurn, IsAlongGroups, IsOverGrid}
@@ -65,7 +66,7 @@ module _ (l : Launch) (item : ℕ) (ins : ℕ → Marks) {A : Type 0} (num : A �
   -- a map along a row
   along_row : (t : Term A) (ts : List ℕ) (r k p : ℕ) (n : Count) (env : ℕ → Marks) (w : Marks) (a b c d : Code) → IsAlongRow num forms l ins item k p n env t w ts r a c → IsAlongRow num forms l ins item k p n env t w ts r b d → Alike true l item ts c d → Alike true l item ts a b
   along_row (Reshape m t) ts r k p n env w a b c d x y h = along_row t ts r k p n env (λ cs q. w cs (result_position num m q)) a b c d x.1 y.1 h
-  along_row (Map Local len loads xs t) ts r k p n env w a b c d x y h =
+  along_row (Map (Over Items dimension.X) len loads xs t) ts r k p n env w a b c d x y h =
       let f = marks_in local_arrays num ins env k xs in
       let v = more n (variable_count xs) in
       in_turns l item (forms.columns.local len) ts (FromLocalId X) (ByLocalSize X) (num len) _ a b c d (takes_column len) x y
@@ -108,7 +109,7 @@ module _ (l : Launch) (item : ℕ) (ins : ℕ → Marks) {A : Type 0} (num : A �
       written (LetArray v t) env u w a b c d few x y h =
           argument v env u a b x.0 y.0 (omega (arith, few)) x.1 y.1
           (written t (λ j. push (marks_of num ins env u.locals v j) (env j)) (used_after u v) w x.0 y.0 c d (omega (arith, few)) x.2 y.2 h)
-      written (Map LocalRows len loads xs t) env u w a b c d few x y h =
+      written (Map (Over Items dimension.Y) len loads xs t) env u w a b c d few x y h =
           argument xs env u a b x.0 y.0 (omega (arith, few)) x.2 y.2
           (past l item around (one (u.phases + phases_in xs)) (other (u.phases + phases_in xs)) x.0 y.0 x.1 y.1 (same (u.phases + phases_in xs) (omega (arith, few))) x.3 y.3
           (nest env (used_after u xs) len loads (marks_of num ins env u.locals xs) t w x.1 y.1 c d x.4 y.4 h))
@@ -124,7 +125,7 @@ module _ (l : Launch) (item : ℕ) (ins : ℕ → Marks) {A : Type 0} (num : A �
   along_groups : (t : Term A) (rf : MapForm) (rows : ℕ) (n : Count) (r : ℕ) (env : (row var : ℕ) → Marks) (w : (row : ℕ) → Marks) (a b : Code) → r < rows → IsGroupRow l item r → ((q : ℕ) → q ≤ phases_along t → one q ≡ other q)
       → IsAlongGroups num forms l ins one rf rows n env t w a → IsAlongGroups num forms l ins other rf rows n env t w b → Alike true l item (variables_in rf [] r) a b
   along_groups (Reshape m t) rf rows n r env w a b rl row same x y = along_groups t rf rows n r env (λ u cs p. w u cs (result_position num m p)) a b rl row same x.1 y.1
-  along_groups (Map WorkGroup z loads xs t) rf rows n r env w a b rl row same x y =
+  along_groups (Map (Over Groups dimension.X) z loads xs t) rf rows n r env w a b rl row same x y =
       let len = num z in
       let cf = form_over_groups (forms.columns.once z) in
       statement l item ins (forms.columns.once z) (variables_in rf [] r) (FromGroupId X) (ByGroupCount X) len x.1 y.1 a b x.0 y.0 x.2 y.2 x.3 y.3
@@ -140,7 +141,7 @@ module _ (l : Launch) (item : ℕ) (ins : ℕ → Marks) {A : Type 0} (num : A �
   over_grid : (t : Term A) (env : ℕ → Marks) (w : Marks) (a b : Code) → ((q : ℕ) → q ≤ grid_phase_count t → one q ≡ other q) → IsOverGrid num forms l ins one env t w a → IsOverGrid num forms l ins other env t w b → Alike true l item [] a b
   over_grid (Reshape m t) env w a b same x y = over_grid t env (λ cs p. w cs (result_position num m p)) a b same x.1 y.1
   over_grid (LetArray v t) env w a b same x y = over_grid t (push (argument_marks l ins num env 0 v) env) w a b same x y
-  over_grid (Map WorkGroupRows z loads xs t) env w a b same x y =
+  over_grid (Map (Over Groups dimension.Y) z loads xs t) env w a b same x y =
       let len = num z in
       let rf = form_over_groups (forms.rows.once z) in
       let f = argument_marks l ins num env 0 xs in

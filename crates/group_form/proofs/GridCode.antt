@@ -1,24 +1,25 @@
 -- Code that is printed for a map over work-groups in two dimensions is printed for its phases.
 use Rattle.std.proofs.Common.{◌≡◌, ℕ, zero, suc, ◌+◌, ◌*◌, ◌/◌, ◌%◌, ◌<◌, List, [], ◌∷◌, length, Bool, true, false, refl, sym, ap, ◌∙◌, subst, arith}
 use Rattle.std.proofs.lemmas.Nat.{div-mul-add, mod-mul-add}
+use Rattle.lift_tree.specs.declared.term.Level.TheVariants.{Items}
+use Rattle.lift_tree.specs.declared.term.Dimension.TheVariants as dimension
 use Rattle.kernel_tree.specs.declared.tree.Dimension.TheVariants.{X, Y}
 use Rattle.kernel_tree.specs.Code.{FromLocalId, ByLocalSize, Start, Stride, Code, End}
 use Rattle.kernel_tree.specs.Launch.{Launch, Cells}
 use Rattle.barrier_placement.specs.Fencing.{Fencing, Open}
 use Rattle.lift_ir.specs.Types.{Ty, PairOf, ArrayOf}
 use Rattle.lift_ir.specs.Layouts.{operand_position, result_position}
-use Rattle.lift_ir.specs.Terms.{LoadSet, Local, LocalRows, LocalMemory, Term, Bound, Source, Both, Project, Reshape, LetArray, Map, Copy, push, HasType}
+use Rattle.lift_ir.specs.Terms.{LoadSet, Over, LocalMemory, Term, Bound, Source, Both, Project, Reshape, LetArray, Map, Copy, push, HasType}
 use Rattle.lift_ir.specs.Scalars.{Scalars, at_index, scalars_of}
 use Rattle.printed_form.specs.Arguments.{marks_in, local_arrays}
 use Rattle.printed_form.specs.Counts.{Count, more, load_count, variable_count, private_count, local_count}
 use Rattle.printed_form.specs.Marks.{Marks, loaded_marks}
 use Rattle.printed_form.specs.Form.{IsLoaded, IsWritten}
-use Rattle.printed_form.specs.MapForms.{MapForm, Looped, Guarded, Alone, TurnCode}
+use Rattle.printed_form.specs.MapForms.{MapForm, Looped, Guarded, Alone, TurnCode, AreTurnsFrom}
 use Rattle.group_phases.specs.Epochs.{IsPast}
 use Rattle.group_phases.specs.GridPhases.{GridList, AtItsTurns, variables_at, IsPhaseNest, IsPhase}
 use Rattle.group_phases.specs.NestRows.{IsPlaceCode, IsRowCode, IsNestCode}
 use Rattle.group_phases.specs.Phased.{ArePhases}
-use Rattle.group_phases.specs.Strides.{AreTurnsFrom}
 use Rattle.group_form.specs.Body.{destination_marks}
 use Rattle.group_form.specs.Form.{Used}
 use Rattle.group_form.specs.GridForm as form
@@ -104,8 +105,8 @@ module _ {A : Type 0} (num : A → ℕ) (l : Launch) (c : Cells) (wanted : List 
         (λ us r before after. (mid : Code) × IsLoaded l item b.ins us loads (at_index r (rm i)) m before mid
         × form.IsAlongRow num b.forms l b.ins item k a (more m (load_count loads)) (env i r) t (λ cs q. destination_marks b.out i d cs (outer (under (result_position num y) (r ∷ q)))) us r mid after)
         (λ us r before after lt e. (e.0, e.1, e.2.1)) code rest z)
-    along_code (Map Local n2 loads2 ys body) ty h outer path f item i ts code rest z =
-        let s = stage (Map Local n2 loads2 ys body) ty h outer path in
+    along_code (Map (Over Items dimension.X) n2 loads2 ys body) ty h outer path f item i ts code rest z =
+        let s = stage (Map (Over Items dimension.X) n2 loads2 ys body) ty h outer path in
         turns_as l item (b.forms.rows.local n) (FromLocalId Y) (ByLocalSize Y) ts (num n) _ (IsRowCode num l item b.ins s.nest (place_of b.out i s) (FromLocalId X) (ByLocalSize X))
         (λ us r before after lt e. (
           e.0,
@@ -146,7 +147,7 @@ module _ {A : Type 0} (num : A → ℕ) (l : Launch) (c : Cells) (wanted : List 
         let two = written_count x (bound_to s v h.0) ty h.2 d outer path f.1 in
         let sum = long_append (argument_stages s v h.0 h.1) (written_stages (bound_to s v h.0) x ty h.2 d outer path) in
         omega arith
-    written_count (Map LocalRows n loads xs body) s ty h d outer path f =
+    written_count (Map (Over Items dimension.Y) n loads xs body) s ty h d outer path f =
         let one = argument_count xs s (ArrayOf (num n) h.0) h.4 f.0 in
         let sum = long_append (argument_stages s xs (ArrayOf (num n) h.0) h.4) (last_stage num b.forms b.ins b.src b.sources n s loads xs body h.0 h.1 d outer path h.5 ∷ []) in
         omega arith
@@ -196,7 +197,7 @@ module _ {A : Type 0} (num : A → ℕ) (l : Launch) (c : Cells) (wanted : List 
         let one = argument_phases v s h.0 h.1 q n code x.0 e f.0 (each_left (λ r t. stage_at b.stages r ≡ t) q xs ys is) x.1 in
         let two = written_phases y t ty h.2 d outer path (q + length xs) (n + phases_in v) x.0 rest (omega arith) f.1 (each_right (λ r t. stage_at b.stages r ≡ t) q xs ys is) x.2 in
         subst (λ z. Between q z code rest) (sym (long_append xs ys)) (between_append q (length xs) (length ys) code x.0 rest one two)
-    written_phases (Map LocalRows m loads xs body) s ty h d outer path q n code rest e f is x =
+    written_phases (Map (Over Items dimension.Y) m loads xs body) s ty h d outer path q n code rest e f is x =
         let ss = argument_stages s xs (ArrayOf (num m) h.0) h.4 in
         let t = last_stage num b.forms b.ins b.src b.sources m s loads xs body h.0 h.1 d outer path h.5 in
         let r = q + length ss in

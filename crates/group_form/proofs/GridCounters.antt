@@ -1,10 +1,12 @@
 -- Local arrays are numbered in the order in which phases of two dimensions fill them.
 use Rattle.std.proofs.Common.{◌≡◌, ℕ, zero, suc, ◌+◌, ◌<◌, ◌≤◌, List, [], ◌∷◌, ◌++◌, length, true, false, refl, sym, ap, ◌∙◌, subst, ⊎_elim, inl, inr, arith}
 use Rattle.std.proofs.lemmas.Bool.{lt-ltb, le-ltb}
+use Rattle.lift_tree.specs.declared.term.Level.TheVariants.{Items}
+use Rattle.lift_tree.specs.declared.term.Dimension.TheVariants.{X, Y}
 use Rattle.kernel_tree.specs.Faults.{Among}
 use Rattle.lift_ir.specs.Types.{Ty, PairOf, ArrayOf, width}
 use Rattle.lift_ir.specs.Layouts.{operand_position, result_position}
-use Rattle.lift_ir.specs.Terms.{LoadSet, Local, LocalRows, LocalMemory, Term, Bound, Source, Both, Project, Reshape, LetArray, Map, Copy, push, HasType}
+use Rattle.lift_ir.specs.Terms.{LoadSet, Over, LocalMemory, Term, Bound, Source, Both, Project, Reshape, LetArray, Map, Copy, push, HasType}
 use Rattle.lift_ir.specs.Scalars.{Scalars, at_index, scalars_of}
 use Rattle.printed_form.specs.Counts.{Count, more, variable_count, private_count, local_count}
 use Rattle.printed_form.specs.Marks.{Marks, loaded_marks}
@@ -103,7 +105,7 @@ module _ {A : Type 0} (num : A → ℕ) (forms : GridForms A) (ins : ℕ → Mar
   along_is : (n : A) (loads : LoadSet) (x : Ty) (types : ℕ → Ty) (rm : ℕ → Marks) (rs : ℕ → Scalars) (env : (turn row var : ℕ) → Marks) (sems : (turn row var : ℕ) → Scalars) (k a : ℕ) (m : Count) (us : List Use) (d : Destination) (t : Term A) (ty : Ty) (h : HasType num src types t ty) (outer path : List ℕ → List ℕ) → StandsAlongRow t
       → let s = stages.along_stage num forms ins src sources n loads x types rm rs env sems k a m us d t ty h outer path in (s.locals ≡ k) × (s.destination ≡ d) × (s.uses ≡ us)
   along_is n loads x types rm rs env sems k a m us d (Reshape y t) ty h outer path f = along_is n loads x types rm rs env sems k a m us d t h.0 h.1 (λ p. outer (under (result_position num y) p)) (λ p. under (operand_position num y) (path p)) f.1
-  along_is n loads x types rm rs env sems k a m us d (Map Local n2 loads2 ys body) ty h outer path f = (refl, refl, refl)
+  along_is n loads x types rm rs env sems k a m us d (Map (Over Items X) n2 loads2 ys body) ty h outer path f = (refl, refl, refl)
   along_is n loads x types rm rs env sems k a m us d _ ty h outer path f = absurd (assumption)
 
   pub last_is : (n : A) (s : Scope) (loads : LoadSet) (xs body : Term A) (x y : Ty) (d : Destination) (outer path : List ℕ → List ℕ) (typed : HasType num src (push x s.types) body y) → StandsAlongRow body
@@ -139,7 +141,7 @@ module _ {A : Type 0} (num : A → ℕ) (forms : GridForms A) (ins : ℕ → Mar
         let one = argument_chain v s h.0 h.1 f.0 in
         let two = written_chain b (bound_to s v h.0) ty h.2 d outer path f.1 (subst (λ z. FirstIs z d) sum first) in
         join_chains s.locals (s.locals + local_count v) (next (s.locals + (local_count v + local_count b)) d) (argument_stages s v h.0 h.1) (written_stages (bound_to s v h.0) b ty h.2 d outer path) one.0 one.1 two.0 (two.1 ∙ ap (λ z. next z d) (sym sum))
-    written_chain (Map LocalRows n loads xs b) s ty h d outer path f first =
+    written_chain (Map (Over Items Y) n loads xs b) s ty h d outer path f first =
         let one = argument_chain xs s (ArrayOf (num n) h.0) h.4 f.0 in
         let t = last_stage n s loads xs b h.0 h.1 d outer path h.5 in
         let is = last_is n s loads xs b h.0 h.1 d outer path h.5 f.1 in
@@ -167,7 +169,7 @@ module _ {A : Type 0} (num : A → ℕ) (forms : GridForms A) (ins : ℕ → Mar
     written_uses_are (Reshape y a) s ty h d outer path f = written_uses_are a s h.0 h.1 d (λ p. outer (result_position num y p)) (λ p. operand_position num y (path p)) f.1
     written_uses_are (LetArray v b) s ty h d outer path f =
         both (argument_stages s v h.0 h.1) (written_stages (bound_to s v h.0) b ty h.2 d outer path) (argument_uses s.origins s.locals v) (written_uses (bound_to s v h.0).origins (s.locals + local_count v) b d) (argument_uses_are v s h.0 h.1 f.0) (written_uses_are b (bound_to s v h.0) ty h.2 d outer path f.1)
-    written_uses_are (Map LocalRows n loads xs b) s ty h d outer path f =
+    written_uses_are (Map (Over Items Y) n loads xs b) s ty h d outer path f =
         let t = last_stage n s loads xs b h.0 h.1 d outer path h.5 in
         let us = loop_uses s.origins (bent (origin_of s.origins s.locals xs)) loads b d false in
         both (argument_stages s xs (ArrayOf (num n) h.0) h.4) (t ∷ []) (argument_uses s.origins s.locals xs) (us ∷ []) (argument_uses_are xs s (ArrayOf (num n) h.0) h.4 f.0) (ap (λ z. z ∷ []) (last_is n s loads xs b h.0 h.1 d outer path h.5 f.1).2)

@@ -4,8 +4,10 @@ use Rattle.std.proofs.Common.{◌≡◌, ℕ, ◌+◌, ◌<◌, [], ◌∷◌, l
 use Rattle.barrier_placement.specs.Conflicts as placed
 use Rattle.barrier_placement.specs.Laws.{NeededBarriersSeparate}
 use Rattle.lift_tree.specs.Meaning.{meaning}
+use Rattle.lift_tree.specs.declared.term.Level.TheVariants.{Groups, Items}
+use Rattle.lift_tree.specs.declared.term.Dimension.TheVariants.{X, Y}
 use Rattle.lift_ir.specs.Scalars.{scalars_of, no_scalars, lists_of}
-use Rattle.lift_ir.specs.Terms.{WorkGroup, WorkGroupRows, LocalRows, LocalMemory, Term, Bound, Source, Both, Project, Reshape, LetArray, Map, Copy, push, no_type}
+use Rattle.lift_ir.specs.Terms.{Over, LocalMemory, Term, Bound, Source, Both, Project, Reshape, LetArray, Map, Copy, push, no_type}
 use Rattle.lift_ir.proofs.Meaning.{means}
 use Rattle.lift_ir.proofs.Lists.{are_lists, lists_long}
 use Rattle.printed_form.specs.Counts.{local_count}
@@ -21,18 +23,18 @@ use Rattle.group_form.proofs.Uses.{all_local}
 some_phases : {A : Type 0} (t : Term A) → StandsInGrid true t → 0 < phases_in t
 some_phases (Reshape y t) f = some_phases t f.1
 some_phases (LetArray v b) f = let e = some_phases b f.1 in omega arith
-some_phases (Map LocalRows n loads xs b) f = omega arith
+some_phases (Map (Over Items Y) n loads xs b) f = omega arith
 some_phases _ f = absurd (assumption)
 
 some_along : {A : Type 0} (t : Term A) → StandsAlongGroups t → 0 < phases_along t
 some_along (Reshape y t) f = some_along t f.1
-some_along (Map WorkGroup n loads xs b) f = some_phases b f.1
+some_along (Map (Over Groups X) n loads xs b) f = some_phases b f.1
 some_along _ f = absurd (assumption)
 
 some_phase : {A : Type 0} (t : Term A) → StandsOverGrid t → 0 < grid_phase_count t
 some_phase (Reshape y t) f = some_phase t f.1
 some_phase (LetArray v b) f = some_phase b f.1
-some_phase (Map WorkGroupRows n loads xs b) f = some_along b f.1
+some_phase (Map (Over Groups Y) n loads xs b) f = some_along b f.1
 some_phase _ f = absurd (assumption)
 
 module _ {A : Type 0} where
@@ -53,18 +55,18 @@ module _ {A : Type 0} where
     written_long (Reshape y a) env k d f = written_long a env k d f.1
     written_long (LetArray v b) env k d f =
         joined (phases_in v) (phases_in b) (argument_uses env k v) (written_uses (push (origin_of env k v) env) (k + local_count v) b d) (argument_long v env k f.0) (written_long b (push (origin_of env k v) env) (k + local_count v) d f.1)
-    written_long (Map LocalRows n loads xs b) env k d f = joined (phases_in xs) 1 (argument_uses env k xs) (loop_uses env (bent (origin_of env k xs)) loads b d false ∷ []) (argument_long xs env k f.0) refl
+    written_long (Map (Over Items Y) n loads xs b) env k d f = joined (phases_in xs) 1 (argument_uses env k xs) (loop_uses env (bent (origin_of env k xs)) loads b d false ∷ []) (argument_long xs env k f.0) refl
     written_long _ env k d f = absurd (assumption)
 
   row_long : (t : Term A) → StandsAlongGroups t → length (row_uses t) ≡ phases_along t
   row_long (Reshape y t) f = row_long t f.1
-  row_long (Map WorkGroup n loads xs b) f = written_long b (λ v. Elsewhere) 0 Outputs f.1
+  row_long (Map (Over Groups X) n loads xs b) f = written_long b (λ v. Elsewhere) 0 Outputs f.1
   row_long _ f = absurd (assumption)
 
   uses_long : (t : Term A) → StandsOverGrid t → length (grid_uses t) ≡ grid_phase_count t
   uses_long (Reshape y t) f = uses_long t f.1
   uses_long (LetArray v b) f = uses_long b f.1
-  uses_long (Map WorkGroupRows n loads xs b) f = row_long b f.1
+  uses_long (Map (Over Groups Y) n loads xs b) f = row_long b f.1
   uses_long _ f = absurd (assumption)
 
 pub grid_uses_can_be_placed : (A : Type 0) → GridUsesCanBePlaced A

@@ -1,25 +1,27 @@
 -- What the printer prints for a map over rows of work-groups is printed for it.
-use Rattle.std.proofs.Common.{◌≡◌, ℕ, ◌+◌, ◌*◌, ◌/◌, ◌%◌, ◌<◌, ◌^◌, Bool, true, false, List, [], ◌∷◌, ◌++◌, Some, length, length-append, refl, sym, ap, subst, arith}
+use Rattle.std.proofs.Common.{◌≡◌, ℕ, ◌+◌, ◌*◌, ◌/◌, ◌%◌, ◌<◌, ◌^◌, Bool, true, false, List, [], ◌∷◌, ◌++◌, length, length-append, refl, subst, arith}
 use Rattle.std.proofs.Math.Nat.{mod-lt}
 use Rattle.std.proofs.lemmas.Nat.{div-add-mod'}
+use Rattle.lift_tree.specs.declared.term.Level.TheVariants.{Groups, Items}
+use Rattle.lift_tree.specs.declared.term.Dimension.TheVariants as dimension
 use Rattle.kernel_tree.specs.declared.tree.Dimension.TheVariants.{X, Y}
 use Rattle.kernel_tree.specs.Formula.{Formula}
-use Rattle.kernel_tree.specs.Code.{FromZero, FromGlobalId, FromGroupId, FromLocalId, ByGroupCount, ByLocalSize, Start, Stride, Input, Output, Local as LocalArray, Code, End, start_value, stride_value}
+use Rattle.kernel_tree.specs.Code.{FromGroupId, FromLocalId, ByGroupCount, ByLocalSize, Start, Stride, Input, Output, Local as LocalArray, Code, End, start_value, stride_value}
 use Rattle.kernel_tree.specs.Launch.{Launch, ids_of, item_count}
 use Rattle.barrier_placement.specs.Fencing.{Fencing}
 use Rattle.lift_ir.specs.Types.{Ty, PairOf, ArrayOf, measured}
 use Rattle.lift_ir.specs.Forms.{Stands}
 use Rattle.lift_ir.specs.Fours.{Lie, Whole, element_lie, written_lie, bound_lie, LoadsFours, Lies, ReadsFours, WritesFours, no_lie}
 use Rattle.lift_ir.specs.Layouts.{result_position}
-use Rattle.lift_ir.specs.Terms.{LoadSet, LoadsScalars, WorkGroup, Local, WorkGroupRows, LocalRows, LocalMemory, Term, Bound, Source, Both, Project, Reshape, LetArray, Map, Copy, push, HasType, no_type}
+use Rattle.lift_ir.specs.Terms.{LoadSet, LoadsScalars, Over, LocalMemory, Term, Bound, Source, Both, Project, Reshape, LetArray, Map, Copy, push, HasType, no_type}
 use Rattle.lift_ir.specs.Scalars.{at_index}
 use Rattle.lift_ir.specs.Loads.{covers, none, held_scalars, LoadsSuffice}
 use Rattle.printed_form.specs.Arguments.{private_arrays, argument_view, local_arrays, marks_in}
 use Rattle.printed_form.specs.Counts.{Count, more, no_variables, load_count, variable_count, private_count, local_count}
 use Rattle.printed_form.specs.Form.{IsTurn, IsLoaded, IsWritten, argument_marks}
-use Rattle.printed_form.specs.MapForms.{MapForm, Looped, Guarded, Alone, form_over_groups, variables_in, TurnCode}
+use Rattle.printed_form.specs.MapForms.{MapForm, Looped, Guarded, Alone, form_over_groups, variables_in, TurnCode, AreTurnsFrom}
 use Rattle.printed_form.specs.Marks.{Marks, laid_in, loaded_marks}
-use Rattle.printed_form.specs.Means.{IsSpelled, Means, Shows, LiesAs, AllShow}
+use Rattle.printed_form.specs.Means.{IsSpelled, Shows, LiesAs, AllShow}
 use Rattle.printed_form.specs.Printer.{print_loaded, print_written, no_view, input_views, input_marks}
 use Rattle.printed_form.specs.Views.{View, loaded_view, view_at, rewritten_view, placed_view, laid_view}
 use Rattle.printed_form.specs.Whole.{no_marks, output_marks}
@@ -32,7 +34,6 @@ use Rattle.printed_form.proofs.Printed.{nothing_held, nothing_shown}
 use Rattle.group_phases.specs.Epochs.{fenced}
 use Rattle.group_phases.specs.GridPhases.{IsGroupRow, IsGroupColumn}
 use Rattle.group_phases.specs.Grids.{Grid, places}
-use Rattle.group_phases.specs.Strides.{AreTurnsFrom}
 use Rattle.group_phases.proofs.Grids.{some_factor}
 use Rattle.group_phases.proofs.TurnForms.{below}
 use Rattle.group_form.specs.Forms.{IsOfInputs}
@@ -40,11 +41,11 @@ use Rattle.group_form.specs.Form.{Used, used_after}
 use Rattle.group_form.specs.GridForm.{IsAlongRow, IsGridArgument, IsGridWritten, IsAlongGroups, IsOverGrid}
 use Rattle.group_form.specs.GridTerms.{GridForms, StandsAlongRow, StandsInGrid, StandsAlongGroups, StandsOverGrid}
 use Rattle.group_form.specs.GridTheorem.{MakeGridTurns}
-use Rattle.group_form.specs.GridPrinter.{start_formula, turn_from, print_turns_from, print_place, print_along_row, print_row, print_local_nest, print_grid_argument, print_grid_written, print_along_groups, print_grid, GridPrinterPrints}
-use Rattle.group_form.specs.Printer.{depth_in}
+use Rattle.group_form.specs.GridPrinter.{print_place, print_along_row, print_row, print_local_nest, print_grid_argument, print_grid_written, print_along_groups, print_grid, GridPrinterPrints}
+use Rattle.group_form.specs.Printer.{depth_in, start_formula, turn_from, print_turns_from}
 use Rattle.group_form.specs.Stages.{marks_of}
 use Rattle.group_form.specs.Uses.{phases_in}
-use Rattle.group_form.proofs.Shown.{CellsAs, element_as, turned_as, back_as, all_around, placed_as, placed_shows}
+use Rattle.group_form.proofs.Shown.{CellsAs, element_as, start_means, turned_as, back_as, all_around, placed_as, placed_shows}
 
 -- arguments for the items of a group, and of inputs alone, are arguments
 grid_argument : {A : Type 0} (t : Term A) → StandsInGrid false t → IsArgument local_arrays t
@@ -86,13 +87,6 @@ long_in : (form : MapForm) (ts : List ℕ) (depth j : ℕ) → length ts ≡ dep
 long_in Looped ts depth j d = let more = length-append ts (j ∷ []) in omega arith
 long_in Guarded ts depth j d = d
 long_in Alone ts depth j d = d
-
--- what a map begins with means its first turn
-start_means : (l : Launch) (item : ℕ) (s : Start) (i : ℕ) (ts : List ℕ) → i ≡ start_value (ids_of l item) s → i < 2 ^ 31 → Means l item ts (start_formula s) i
-start_means l item FromZero i ts own lt = record { fits = omega arith; always = λ vs. ap Some (sym own) }
-start_means l item (FromGlobalId d) i ts own lt = record { fits = omega arith; always = λ vs. ap Some (sym own) }
-start_means l item (FromGroupId d) i ts own lt = record { fits = omega arith; always = λ vs. ap Some (sym own) }
-start_means l item (FromLocalId d) i ts own lt = record { fits = omega arith; always = λ vs. ap Some (sym own) }
 
 -- what lies at a turn
 turn_as : (l : Launch) (item : ℕ) (form : MapForm) (s : Start) (c : Stride) (z : Lie) (ts : List ℕ) (depth j n : ℕ) (t : Ty) (x : View) (y : Marks) → length ts ≡ depth → j < n → n < 2 ^ 31 → TakenIn form l item s c j → CellsAs l item z ts (ArrayOf n t) x y
@@ -146,7 +140,7 @@ module _ (l : Launch) {A : Type 0} (num : A → ℕ) (forms : GridForms A) (spel
         → IsAlongRow num forms l ins item k a n env t w ts row (print_along_row spell forms sins fence depth views k a n t v rest) rest
     along_is (Reshape y t) ts depth row lies g views env h k a n ty z v w rest d ok nm sd fs cells es gs r =
         (sd.0, along_is t ts depth row lies g views env h k a n ok.0 (written_lie y fs.0) (rewritten_view spell y v) (λ cs q. w cs (result_position num y q)) rest d ok.1 nm sd.1 fs.2 (back_as l item num spell spelled z fs.0 ts y ok.0 ty v w fs.1 sd.0 ok.2 ok.3 ok.4 cells) es gs r)
-    along_is (Map Local m loads xs b) ts depth row lies g views env h k a n ty z v w rest d ok nm sd fs cells es gs r =
+    along_is (Map (Over Items dimension.X) m loads xs b) ts depth row lies g views env h k a n ty z v w rest d ok nm sd fs cells es gs r =
         let form = forms.columns.local m in
         let e = argument_view local_arrays spell sins views k xs in
         let f = marks_in local_arrays num ins env k xs in
@@ -273,7 +267,7 @@ module _ (l : Launch) {A : Type 0} (num : A → ℕ) (forms : GridForms A) (spel
             argument_is s lies g views env h u ok.0 next ok.1 nm.0 sd.0 fs.2 es gs r,
             grid_written_is b (push fs.0 lies) (push ok.0 g) (push x views) (λ i. push (y i) (env i)) (push (held_scalars h s) h) (used_after u s) ty z v w rest ok.2 nm.1 sd.1 fs.3 (let_shows s lies g views env h u.locals ok.0 fs.0 ok.1 nm.0 sd.0 es gs fs.1) gs (let_holds s g views env h u.locals ok.0 ok.1 r) cells,
           )
-      grid_written_is (Map LocalRows z0 loads xs b) lies g views env h u ty z v w rest ok nm sd fs es gs r cells =
+      grid_written_is (Map (Over Items dimension.Y) z0 loads xs b) lies g views env h u ty z v w rest ok nm sd fs es gs r cells =
           let len = num z0 in
           let e = argument_view local_arrays spell sins views u.locals xs in
           let f = marks_of num ins env u.locals xs in
@@ -306,7 +300,7 @@ module _ (l : Launch) {A : Type 0} (num : A → ℕ) (forms : GridForms A) (spel
         → IsAlongGroups num forms l ins fence rf rows n env t w (print_along_groups spell forms sins fence (depth_in rf 0) views n t v)
     along_groups_are (Reshape y t) n lies g views env h ty z v w ok nm sd fs es gs r cells =
         (sd.0, along_groups_are t n lies g views env h ok.0 (written_lie y fs.0) (rewritten_view spell y v) (λ u cs q. w u cs (result_position num y q)) ok.1 nm sd.1 fs.2 es gs r (λ item u here ul row. back_as l item num spell spelled z fs.0 (variables_in rf [] u) y ok.0 ty v (w u) fs.1 sd.0 ok.2 ok.3 ok.4 (cells item u here ul row)))
-    along_groups_are (Map WorkGroup m loads xs b) n lies g views env h ty z v w ok nm sd fs es gs r cells =
+    along_groups_are (Map (Over Groups dimension.X) m loads xs b) n lies g views env h ty z v w ok nm sd fs es gs r cells =
         let len = num m in
         let grid : Grid = record { rows = rows; columns = len } in
         let cf = form_over_groups (forms.columns.once m) in
@@ -364,7 +358,7 @@ module _ (l : Launch) {A : Type 0} (num : A → ℕ) (forms : GridForms A) (spel
       over_grid_is b (push fs.0 lies) (push ok.0 g) (push x views) (push y env) (push (held_scalars h s) h) ty z v w ok.2 nm.1 sd.1 fs.3
       (λ item. let p = input_shows item [] s lies g views env h 0 ok.0 fs.0 ok.1 nm.0 sd.0 (es item) (gs item) fs.1 in all_push l item [] fs.0 ok.0 x y lies g views env (showing l item fs.0 [] ok.0 x y p.0 p.1) (es item)) gs
       (held_push ok.0 x y (held_scalars h s) g views env h (λ cs q k. kept_is private_arrays num spell src ins sins s g views env h 0 ok.0 cs ok.1 q k r) r) cells
-  over_grid_is (Map WorkGroupRows z0 loads xs b) lies g views env h ty z v w ok nm sd fs es gs r cells =
+  over_grid_is (Map (Over Groups dimension.Y) z0 loads xs b) lies g views env h ty z v w ok nm sd fs es gs r cells =
       let len = num z0 in
       let rf = form_over_groups (forms.rows.once z0) in
       let turn = turn_from rf (FromGroupId Y) 0 in

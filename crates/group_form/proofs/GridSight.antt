@@ -3,14 +3,16 @@ use Rattle.std.proofs.Common.{◌≡◌, ℕ, zero, suc, ◌+◌, ◌*◌, ◌/�
 use Rattle.std.specs.Prelude.{slice_index}
 use Rattle.std.proofs.lemmas.Nat.{div-mul-add, mod-mul-add, div-add-mod'}
 use Rattle.std.proofs.Math.Nat.{mod-lt}
+use Rattle.lift_tree.specs.declared.term.Level.TheVariants.{Items}
+use Rattle.lift_tree.specs.declared.term.Dimension.TheVariants.{X, Y}
 use Rattle.kernel_tree.specs.Code.{Array, Input, Output, Local as LocalArray, Private}
 use Rattle.kernel_tree.specs.Device.{row}
 use Rattle.kernel_tree.specs.Faults.{Among}
 use Rattle.kernel_tree.specs.Launch.{Launch, Cells}
 use Rattle.lift_ir.specs.Types.{Ty, PairOf, ArrayOf, IsPosition, IsFlat, width, size}
 use Rattle.lift_ir.specs.Layouts.{Layout, operand_position, result_position, Reshapes, IsInvertible}
-use Rattle.lift_ir.specs.Terms.{LoadSet, Local, LocalRows, LocalMemory, Term, Bound, Source, Both, Project, Reshape, LetArray, Map, Copy, LoadsScalars, push, HasType}
-use Rattle.lift_ir.specs.Owner.{local_owner, local_row_owner}
+use Rattle.lift_ir.specs.Terms.{LoadSet, Over, LocalMemory, Term, Bound, Source, Both, Project, Reshape, LetArray, Map, Copy, LoadsScalars, push, HasType}
+use Rattle.lift_ir.specs.Owner.{local_along}
 use Rattle.lift_ir.specs.Scalars.{Scalars, by_side, at_index, scalars_of}
 use Rattle.lift_ir.proofs.Positions.{operand_in, result_in, result_operand}
 use Rattle.printed_form.specs.Arguments.{marks_in, local_arrays}
@@ -258,7 +260,7 @@ module _ {A : Type 0} (num : A → ℕ) (long : Array → ℕ) (l : Launch) (few
     pub goes : (stage_at b.stages at).destination ≡ d
     pub stage : IsStage at (stage_at b.stages at)
     pub value : (i : ℕ) (cs : List Bool) (p : List ℕ) → IsPosition ty cs (path p) → value_in num b.sources b.out i (stage_at b.stages at) cs ((stage_at b.stages at).path p) ≡ value_of s t i cs (path p)
-    pub place : (cs : List Bool) (p : List ℕ) → IsPosition ty cs (path p) → IsOwnedAt (stage_at b.stages at) p (local_row_owner num l t (path p)) (local_owner num l t (path p))
+    pub place : (cs : List Bool) (p : List ℕ) → IsPosition ty cs (path p) → IsOwnedAt (stage_at b.stages at) p (local_along Y num l t (path p)) (local_along X num l t (path p))
 
   later_seen : (o : Origin) (q r : ℕ) (ty : Ty) (e : ℕ → Marks) (s : ℕ → Scalars) → q ≤ r → Sees o q ty e s → Sees o r ty e s
   later_seen o q r ty e s le h i il cs p x = seen_later (at_way o cs) q r i (e i cs p) (s i cs p) le (h i il cs p x)
@@ -374,7 +376,7 @@ module _ {A : Type 0} (num : A → ℕ) (long : Array → ℕ) (l : Launch) (few
         (envs : (v i r : ℕ) → i < places b.grid → r < num n → Reads (HeldRow i r) us q i (types v) (env i r v) (sems i r v)) where
       along : (t : Term A) (ty : Ty) (h : HasType num b.src types t ty) (outer path : List ℕ → List ℕ) → StandsAlongRow t → IsAimed (destination_type b.result d) (ArrayOf (num n) ty) outer path → Declares long a t → AtMost (more m (more (load_count loads) (variable_count t))) b.variables → IsStage q (stage t ty h outer path)
       along (Reshape y t) ty h outer path f aimed declared room = along t h.0 h.1 (λ p. outer (under (result_position num y) p)) (λ p. under (operand_position num y) (path p)) f.1 (aimed_in_row y (num n) h.0 ty (destination_type b.result d) outer path f.0 h.2 aimed) declared room
-      along (Map Local n2 loads2 ys body) ty h outer path f aimed declared room = record {
+      along (Map (Over Items X) n2 loads2 ys body) ty h outer path f aimed declared room = record {
         rows_made = makes.rows n small;
         columns_made = makes.columns n2 h.2;
         rows_short = omega arith;
@@ -401,27 +403,27 @@ module _ {A : Type 0} (num : A → ℕ) (long : Array → ℕ) (l : Launch) (few
     along_value out (Reshape y t) ty h outer path f i cs p [] e z = absurd z
     along_value out (Reshape y t) ty h outer path f i cs p (r ∷ w) e z =
         along_value out t h.0 h.1 (λ p. outer (under (result_position num y) p)) (λ p. under (operand_position num y) (path p)) f.1 i cs p (r ∷ operand_position num y w) (ap (under (operand_position num y)) e) (z.0, operand_in num y h.0 ty cs w h.2 z.1)
-    along_value out (Map Local n2 loads2 ys body) ty h outer path f i cs p [] e z = absurd z
-    along_value out (Map Local n2 loads2 ys body) ty h outer path f i cs p (r ∷ w) e z = go w e (subst (λ u. IsPosition u cs w) h.6 z.1)
+    along_value out (Map (Over Items X) n2 loads2 ys body) ty h outer path f i cs p [] e z = absurd z
+    along_value out (Map (Over Items X) n2 loads2 ys body) ty h outer path f i cs p (r ∷ w) e z = go w e (subst (λ u. IsPosition u cs w) h.6 z.1)
       where
         at : ℕ → ℕ → List ℕ → ℕ
         at u j p2 = scalars_of num b.sources (push (at_index j (scalars_of num b.sources (sems i u) ys)) (sems i u)) body cs p2
 
-        go : (w : List ℕ) → path p ≡ r ∷ w → IsPosition (ArrayOf (num n2) h.1) cs w → value_in num b.sources out i (stage (Map Local n2 loads2 ys body) ty h outer path) cs ((stage (Map Local n2 loads2 ys body) ty h outer path).path p) ≡ row_value (Map Local n2 loads2 ys body) i cs (r ∷ w)
+        go : (w : List ℕ) → path p ≡ r ∷ w → IsPosition (ArrayOf (num n2) h.1) cs w → value_in num b.sources out i (stage (Map (Over Items X) n2 loads2 ys body) ty h outer path) cs ((stage (Map (Over Items X) n2 loads2 ys body) ty h outer path).path p) ≡ row_value (Map (Over Items X) n2 loads2 ys body) i cs (r ∷ w)
         go [] e z = absurd z
         go (j ∷ w) e z =
             let m2 = num n2 in
             let num_is = ap (joined_up m2) e in
-            ap (value_in num b.sources out i (stage (Map Local n2 loads2 ys body) ty h outer path) cs) num_is
+            ap (value_in num b.sources out i (stage (Map (Over Items X) n2 loads2 ys body) ty h outer path) cs) num_is
             ∙ ap (λ u. at u ((r * m2 + j) % m2) w) (div-mul-add r m2 j z.0) ∙ ap (λ u. at r u w) (mod-mul-add r m2 j z.0)
     along_value out _ ty h outer path f i cs p w e z = absurd (assumption)
 
-    along_place : (t : Term A) (ty : Ty) (h : HasType num b.src types t ty) (outer path : List ℕ → List ℕ) → StandsAlongRow t → (cs : List Bool) (p : List ℕ) (r : ℕ) (w : List ℕ) → path p ≡ r ∷ w → IsPosition ty cs w → IsOwnedAt (stage t ty h outer path) p (r % l.local.1) (local_owner num l t w)
+    along_place : (t : Term A) (ty : Ty) (h : HasType num b.src types t ty) (outer path : List ℕ → List ℕ) → StandsAlongRow t → (cs : List Bool) (p : List ℕ) (r : ℕ) (w : List ℕ) → path p ≡ r ∷ w → IsPosition ty cs w → IsOwnedAt (stage t ty h outer path) p (r % l.local.1) (local_along X num l t w)
     along_place (Reshape y t) ty h outer path f cs p r w e z =
         along_place t h.0 h.1 (λ p. outer (under (result_position num y) p)) (λ p. under (operand_position num y) (path p)) f.1 cs p r (operand_position num y w) (ap (under (operand_position num y)) e) (operand_in num y h.0 ty cs w h.2 z)
-    along_place (Map Local n2 loads2 ys body) ty h outer path f cs p r w e z = go w e (subst (λ u. IsPosition u cs w) h.6 z)
+    along_place (Map (Over Items X) n2 loads2 ys body) ty h outer path f cs p r w e z = go w e (subst (λ u. IsPosition u cs w) h.6 z)
       where
-        go : (w : List ℕ) → path p ≡ r ∷ w → IsPosition (ArrayOf (num n2) h.1) cs w → IsOwnedAt (stage (Map Local n2 loads2 ys body) ty h outer path) p (r % l.local.1) (local_owner num l (Map Local n2 loads2 ys body) w)
+        go : (w : List ℕ) → path p ≡ r ∷ w → IsPosition (ArrayOf (num n2) h.1) cs w → IsOwnedAt (stage (Map (Over Items X) n2 loads2 ys body) ty h outer path) p (r % l.local.1) (local_along X num l (Map (Over Items X) n2 loads2 ys body) w)
         go [] e z = absurd z
         go (j ∷ w) e z =
             let m2 = num n2 in
@@ -493,18 +495,18 @@ module _ {A : Type 0} (num : A → ℕ) (long : Array → ℕ) (l : Launch) (few
         along n loads element (push element kept) rm rs (λ i j. push (loaded_marks loads (at_index j (rm i)) first) (s.env i)) (λ i j. push (at_index j (rs i)) (s.sems i)) (s.locals + local_count xs) (s.privates + private_count xs) first its_uses d r small loads_kept (most_later (more (load_count b.row_top.loads) (load_count b.top.loads)) s.variables (variable_count xs) low) fit ends writes_told row_reads env_reads
         body y (body_typed num b.src s.types loads body x y typed) outer path stands aimed declared (most_rest s.variables (variable_count xs) (more (load_count loads) (variable_count body)) b.variables room)
 
-    this_value : (i : ℕ) (cs : List Bool) (p : List ℕ) → IsPosition (ArrayOf (num n) y) cs (path p) → value_in num b.sources b.out i the_stage cs (the_stage.path p) ≡ value_of s (Map LocalRows n loads xs body) i cs (path p)
+    this_value : (i : ℕ) (cs : List Bool) (p : List ℕ) → IsPosition (ArrayOf (num n) y) cs (path p) → value_in num b.sources b.out i the_stage cs (the_stage.path p) ≡ value_of s (Map (Over Items Y) n loads xs body) i cs (path p)
     this_value i cs p z = of_row (path p) refl z
       where
-        of_row : (w : List ℕ) → path p ≡ w → IsPosition (ArrayOf (num n) y) cs w → value_in num b.sources b.out i the_stage cs (the_stage.path p) ≡ value_of s (Map LocalRows n loads xs body) i cs w
+        of_row : (w : List ℕ) → path p ≡ w → IsPosition (ArrayOf (num n) y) cs w → value_in num b.sources b.out i the_stage cs (the_stage.path p) ≡ value_of s (Map (Over Items Y) n loads xs body) i cs w
         of_row [] e z = absurd z
         of_row (j ∷ w) e z =
             along_value n loads element (push element kept) rm rs (λ i j. push (loaded_marks loads (at_index j (rm i)) first) (s.env i)) (λ i j. push (at_index j (rs i)) (s.sems i)) (s.locals + local_count xs) (s.privates + private_count xs) first its_uses d b.out body y (body_typed num b.src s.types loads body x y typed) outer path stands i cs p (j ∷ w) e z
 
-    this_place : (cs : List Bool) (p : List ℕ) → IsPosition (ArrayOf (num n) y) cs (path p) → IsOwnedAt the_stage p (local_row_owner num l (Map LocalRows n loads xs body) (path p)) (local_owner num l (Map LocalRows n loads xs body) (path p))
+    this_place : (cs : List Bool) (p : List ℕ) → IsPosition (ArrayOf (num n) y) cs (path p) → IsOwnedAt the_stage p (local_along Y num l (Map (Over Items Y) n loads xs body) (path p)) (local_along X num l (Map (Over Items Y) n loads xs body) (path p))
     this_place cs p z = of_row (path p) refl z
       where
-        of_row : (w : List ℕ) → path p ≡ w → IsPosition (ArrayOf (num n) y) cs w → IsOwnedAt the_stage p (local_row_owner num l (Map LocalRows n loads xs body) w) (local_owner num l (Map LocalRows n loads xs body) w)
+        of_row : (w : List ℕ) → path p ≡ w → IsPosition (ArrayOf (num n) y) cs w → IsOwnedAt the_stage p (local_along Y num l (Map (Over Items Y) n loads xs body) w) (local_along X num l (Map (Over Items Y) n loads xs body) w)
         of_row [] e z = absurd z
         of_row (j ∷ w) e z =
             along_place n loads element (push element kept) rm rs (λ i j. push (loaded_marks loads (at_index j (rm i)) first) (s.env i)) (λ i j. push (at_index j (rs i)) (s.sems i)) (s.locals + local_count xs) (s.privates + private_count xs) first its_uses d body y (body_typed num b.src s.types loads body x y typed) outer path stands cs p j w e z.1
@@ -518,7 +520,7 @@ module _ {A : Type 0} (num : A → ℕ) (long : Array → ℕ) (l : Launch) (few
   along_goes : (n : A) (loads : LoadSet) (x : Ty) (types : ℕ → Ty) (rm : ℕ → Marks) (rs : ℕ → Scalars) (env : (turn row var : ℕ) → Marks) (sems : (turn row var : ℕ) → Scalars) (k a : ℕ) (m : Count) (us : List Use) (d : Destination) (t : Term A) (ty : Ty) (h : HasType num b.src types t ty) (outer path : List ℕ → List ℕ) → StandsAlongRow t
       → (stages.along_stage num b.forms b.ins b.src b.sources n loads x types rm rs env sems k a m us d t ty h outer path).destination ≡ d
   along_goes n loads x types rm rs env sems k a m us d (Reshape y t) ty h outer path f = along_goes n loads x types rm rs env sems k a m us d t h.0 h.1 (λ p. outer (under (result_position num y) p)) (λ p. under (operand_position num y) (path p)) f.1
-  along_goes n loads x types rm rs env sems k a m us d (Map Local n2 loads2 ys body) ty h outer path f = refl
+  along_goes n loads x types rm rs env sems k a m us d (Map (Over Items X) n2 loads2 ys body) ty h outer path f = refl
   along_goes n loads x types rm rs env sems k a m us d _ ty h outer path f = absurd (assumption)
 
   last_goes : (n : A) (s : Scope) (loads : LoadSet) (xs body : Term A) (x y : Ty) (d : Destination) (outer path : List ℕ → List ℕ) (typed : HasType num b.src (push x s.types) body y) → StandsAlongRow body → (last_stage n s loads xs body x y d outer path typed).destination ≡ d
@@ -596,7 +598,7 @@ module _ {A : Type 0} (num : A → ℕ) (long : Array → ℕ) (l : Launch) (few
         let two = works x t ty h.2 (q + length xs) d outer path f.1 (bound_in (q + length xs) s v h.0 (scoped_later q (q + length xs) s (omega arith) scoped) one.1) (each_right (λ r t. stage_at b.stages r ≡ t) q xs ys is) aimed fit (λ e. let z = ends e in omega arith) private.1 local.1 (most_rest s.variables (variable_count v) (variable_count x) b.variables room) (most_later (more (load_count b.row_top.loads) (load_count b.top.loads)) s.variables (variable_count v) low) in
         let final = two.1.ends in
         (each_append IsStage q xs ys one.0 two.0, record { at = two.1.at; ends = omega arith; goes = two.1.goes; stage = two.1.stage; value = λ i cs p z. two.1.value i cs p z; place = λ cs p z. two.1.place cs p z })
-    works (Map LocalRows n loads xs body) s ty h q d outer path f scoped is aimed fit ends private local room low =
+    works (Map (Over Items Y) n loads xs body) s ty h q d outer path f scoped is aimed fit ends private local room low =
         let ss = argument_stages s xs (ArrayOf (num n) h.0) h.4 in
         let r = q + length ss in
         let aimed2 = subst (λ z. IsAimed (destination_type b.result d) z outer path) h.6 aimed in
@@ -611,7 +613,7 @@ module _ {A : Type 0} (num : A → ℕ) (long : Array → ℕ) (l : Launch) (few
             goes = ap Stage.destination here ∙ last_goes n s loads xs body h.0 h.1 d outer path h.5 f.1;
             stage = subst (IsStage r) (sym here) this;
             value = λ i cs p z. ap (λ u. value_in num b.sources b.out i u cs (u.path p)) here ∙ this_value q r n s loads xs body h.0 h.1 d outer path h.2 h.3 h.5 (omega arith) scoped one.1 f.1 aimed2 fit (λ e. let z2 = ends e in omega arith) private.1 room low i cs p (subst (λ w. IsPosition w cs (path p)) h.6 z);
-            place = λ cs p z. subst (λ u. IsOwnedAt u p (local_row_owner num l (Map LocalRows n loads xs body) (path p)) (local_owner num l (Map LocalRows n loads xs body) (path p))) (sym here) (this_place q r n s loads xs body h.0 h.1 d outer path h.2 h.3 h.5 (omega arith) scoped one.1 f.1 aimed2 fit (λ e. let z2 = ends e in omega arith) private.1 room low cs p (subst (λ w. IsPosition w cs (path p)) h.6 z));
+            place = λ cs p z. subst (λ u. IsOwnedAt u p (local_along Y num l (Map (Over Items Y) n loads xs body) (path p)) (local_along X num l (Map (Over Items Y) n loads xs body) (path p))) (sym here) (this_place q r n s loads xs body h.0 h.1 d outer path h.2 h.3 h.5 (omega arith) scoped one.1 f.1 aimed2 fit (λ e. let z2 = ends e in omega arith) private.1 room low cs p (subst (λ w. IsPosition w cs (path p)) h.6 z));
           },
         )
     works _ s ty h q d outer path f scoped is aimed fit ends private local room low = absurd (assumption)

@@ -4,6 +4,8 @@ use Rattle.std.specs.Prelude.{map, replicate, slice_index, ◌&&◌}
 use Rattle.std.proofs.lemmas.Bool.{and_parts}
 use Rattle.std.proofs.lemmas.Nat.{div-add-mod'}
 use Rattle.std.proofs.Math.Nat.{mod-lt, mul-le-mul_right}
+use Rattle.lift_tree.specs.declared.term.Level.TheVariants.{Groups}
+use Rattle.lift_tree.specs.declared.term.Dimension.TheVariants as dimension
 use Rattle.kernel_tree.specs.declared.tree.Dimension.TheVariants.{Y}
 use Rattle.kernel_tree.specs.Formula.{Formula, bound_value}
 use Rattle.kernel_tree.specs.Code.{Array, Local as LocalArray, Output, FromGroupId, ByGroupCount, Code, Kernel, End}
@@ -15,14 +17,14 @@ use Rattle.barrier_placement.specs.Fencing.{Fencing, Open}
 use Rattle.barrier_placement.specs.Separates.{Separates}
 use Rattle.lift_ir.specs.Types.{Ty, Scalar, PairOf, ArrayOf, IsPosition, IsFlat, width, size, unflat}
 use Rattle.lift_ir.specs.Layouts.{operand_position, result_position}
-use Rattle.lift_ir.specs.Terms.{LoadSet, WorkGroup, WorkGroupRows, LocalMemory, Term, Bound, Source, Both, Project, Reshape, LetArray, Map, LoadsScalars, push, HasType, no_type}
+use Rattle.lift_ir.specs.Terms.{LoadSet, Over, LocalMemory, Term, Bound, Source, Both, Project, Reshape, LetArray, Map, LoadsScalars, push, HasType, no_type}
 use Rattle.lift_ir.specs.Scalars.{Scalars, by_side, at_index, scalars_of, no_scalars, AreLists}
-use Rattle.lift_ir.specs.Owner.{local_row_owner, column_owner, owner}
+use Rattle.lift_ir.specs.Owner.{local_along, owner_along, owner}
 use Rattle.lift_ir.proofs.Owner.{owner_below}
 use Rattle.lift_ir.proofs.Positions.{operand_in, result_in}
 use Rattle.printed_form.specs.Counts.{more, no_variables, AtMost, load_count, variable_count, private_count, copy_lengths}
 use Rattle.printed_form.specs.Headline.{EveryRunKeeps}
-use Rattle.printed_form.specs.MapForms.{form_over_groups, variables_in}
+use Rattle.printed_form.specs.MapForms.{form_over_groups, variables_in, statement_of}
 use Rattle.printed_form.specs.Marks.{Mark, Nowhere, Marks, laid_in, loaded_marks}
 use Rattle.printed_form.specs.Form.{Declares, IsLoaded, argument_marks}
 use Rattle.printed_form.specs.Whole.{no_marks, IsGiven}
@@ -35,7 +37,7 @@ use Rattle.group_phases.specs.Grids.{Grid, places}
 use Rattle.group_phases.specs.Groups.{declared}
 use Rattle.group_phases.specs.Outcome.{BarriersServeAll}
 use Rattle.group_phases.specs.Phases.{TurnElement}
-use Rattle.group_phases.specs.Strides.{MakesTurnsBy, statement_of}
+use Rattle.group_phases.specs.Strides.{MakesTurnsBy}
 use Rattle.group_phases.proofs.Grids.{some_factor}
 use Rattle.group_phases.proofs.Held.{loaded_or}
 use Rattle.group_phases.proofs.TurnForms.{below}
@@ -317,11 +319,11 @@ module _ {A : Type 0} (num : A → ℕ) (forms : GridForms A) (k : Kernel) (l : 
               (λ f u e. not_locals f u e) (λ e. omega arith) private local (as_many (more (more (load_count loads) (load_count loads2)) (variable_count b))) (as_many (more (load_count loads) (load_count loads2)))
 
           map_phases : M < 2 ^ 31 → IsLaid whole (ArrayOf (num n) (ArrayOf M y)) outer path
-              → ((cs : List Bool) (r : ℕ) (q : List ℕ) → IsPosition (ArrayOf (num n) (ArrayOf M y)) cs (r ∷ q) → value cs (outer (r ∷ q)) ≡ scalars_of num sources (row_sems r) (Map WorkGroup m loads2 ys b) cs q)
-              → ((cs : List Bool) (r : ℕ) (q : List ℕ) → IsPosition (ArrayOf (num n) (ArrayOf M y)) cs (r ∷ q) → owner_at (outer (r ∷ q)) ≡ item_at l (column_owner num l (Map WorkGroup m loads2 ys b) q) ((r % groups_down l) * l.local.1 + local_row_owner num l (Map WorkGroup m loads2 ys b) q))
+              → ((cs : List Bool) (r : ℕ) (q : List ℕ) → IsPosition (ArrayOf (num n) (ArrayOf M y)) cs (r ∷ q) → value cs (outer (r ∷ q)) ≡ scalars_of num sources (row_sems r) (Map (Over Groups dimension.X) m loads2 ys b) cs q)
+              → ((cs : List Bool) (r : ℕ) (q : List ℕ) → IsPosition (ArrayOf (num n) (ArrayOf M y)) cs (r ∷ q) → owner_at (outer (r ∷ q)) ≡ item_at l (owner_along dimension.X num l (Map (Over Groups dimension.X) m loads2 ys b) q) ((r % groups_down l) * l.local.1 + local_along dimension.Y num l (Map (Over Groups dimension.X) m loads2 ys b) q))
               → AtMost (more (more (load_count loads) (load_count loads2)) (variable_count b)) (declared k) → Declares long 0 b → DeclaresLocals long 0 b
-              → IsAlongGroups num forms l ins fence (form_over_groups (forms.rows.once n)) (num n) (load_count loads) row_env (Map WorkGroup m loads2 ys b) (λ r cs q. laid_in Output 0 whole cs (outer (r ∷ q))) row_rest
-              → AreItsPhases num forms k l c lists fence owned (forms.rows.once n && forms.columns.once m) (row_uses (Map WorkGroup m loads2 ys b)) (phases_along (Map WorkGroup m loads2 ys b))
+              → IsAlongGroups num forms l ins fence (form_over_groups (forms.rows.once n)) (num n) (load_count loads) row_env (Map (Over Groups dimension.X) m loads2 ys b) (λ r cs q. laid_in Output 0 whole cs (outer (r ∷ q))) row_rest
+              → AreItsPhases num forms k l c lists fence owned (forms.rows.once n && forms.columns.once m) (row_uses (Map (Over Groups dimension.X) m loads2 ys b)) (phases_along (Map (Over Groups dimension.X) m loads2 ys b))
           map_phases small2 laid values owners room private local printed =
               let all = all_seen private local in
               let last = all.1 in
@@ -363,7 +365,7 @@ module _ {A : Type 0} (num : A → ℕ) (forms : GridForms A) (k : Kernel) (l : 
                             let u = (i % M) % groups_across l in
                             let w = (i / M) % groups_down l in
                             owners cs (i / M) (i % M ∷ p) (row_of_turn i z.0, (column_of_turn i z.0, z.1))
-                            ∙ ap (λ q. item_at l (u * l.local.0 + q) (w * l.local.1 + local_row_owner num l b p)) own.1 ∙ ap (λ q. item_at l (u * l.local.0 + (first_index (last_stage.path p) % last_stage.nest.grid.columns) % l.local.0) (w * l.local.1 + q)) own.0
+                            ∙ ap (λ q. item_at l (u * l.local.0 + q) (w * l.local.1 + local_along dimension.Y num l b p)) own.1 ∙ ap (λ q. item_at l (u * l.local.0 + (first_index (last_stage.path p) % last_stage.nest.grid.columns) % l.local.0) (w * l.local.1 + q)) own.0
                             ∙ sym (item_is l h.launch u w last_stage.nest.grid.columns (first_index (last_stage.path p)) (mod-lt (i % M) some_groups));
                         within = within;
                       });
@@ -389,17 +391,17 @@ module _ {A : Type 0} (num : A → ℕ) (forms : GridForms A) (k : Kernel) (l : 
       -- through layouts along a row
       along_phases : (t : Term A) (ty : Ty) (outer path : List ℕ → List ℕ) → StandsAlongGroups t → HasType num src row_types t ty → IsLaid whole (ArrayOf (num n) ty) outer path
           → ((cs : List Bool) (r : ℕ) (q : List ℕ) → IsPosition (ArrayOf (num n) ty) cs (r ∷ q) → value cs (outer (r ∷ q)) ≡ scalars_of num sources (row_sems r) t cs q)
-          → ((cs : List Bool) (r : ℕ) (q : List ℕ) → IsPosition (ArrayOf (num n) ty) cs (r ∷ q) → owner_at (outer (r ∷ q)) ≡ item_at l (column_owner num l t q) ((r % groups_down l) * l.local.1 + local_row_owner num l t q))
+          → ((cs : List Bool) (r : ℕ) (q : List ℕ) → IsPosition (ArrayOf (num n) ty) cs (r ∷ q) → owner_at (outer (r ∷ q)) ≡ item_at l (owner_along dimension.X num l t q) ((r % groups_down l) * l.local.1 + local_along dimension.Y num l t q))
           → AtMost (more (load_count loads) (variable_count t)) (declared k) → Declares long 0 t → AreLong LocalArray long 0 (copy_lengths LocalMemory t)
           → IsAlongGroups num forms l ins fence (form_over_groups (forms.rows.once n)) (num n) (load_count loads) row_env t (λ r cs q. laid_in Output 0 whole cs (outer (r ∷ q))) row_rest
           → AreItsPhases num forms k l c lists fence owned (forms.rows.once n && is_once_along forms t) (row_uses t) (phases_along t)
       along_phases (Reshape z t) ty outer path f hx laid values owners room private local printed =
           let r = along_phases t hx.0 (λ p. outer (under (result_position num z) p)) (λ p. under (operand_position num z) (path p)) f.1 hx.1 (laid_in_row num z (num n) hx.0 ty whole outer path f.0 hx.2 laid)
           (λ cs r q w. let e = result_in num z hx.0 ty cs q f.0 hx.2 w.1 in values cs r (result_position num z q) (w.0, e.0) ∙ ap (scalars_of num sources (row_sems r) t cs) e.1)
-          (λ cs r q w. let e = result_in num z hx.0 ty cs q f.0 hx.2 w.1 in owners cs r (result_position num z q) (w.0, e.0) ∙ ap (λ u. item_at l (column_owner num l t u) ((r % groups_down l) * l.local.1 + local_row_owner num l t u)) e.1)
+          (λ cs r q w. let e = result_in num z hx.0 ty cs q f.0 hx.2 w.1 in owners cs r (result_position num z q) (w.0, e.0) ∙ ap (λ u. item_at l (owner_along dimension.X num l t u) ((r % groups_down l) * l.local.1 + local_along dimension.Y num l t u)) e.1)
           room private local printed.1 in
           record { body = r.body; once_is = r.once_is; is = r.is; uses_are = r.uses_are; count_is = r.count_is; printed = r.printed }
-      along_phases (Map WorkGroup m loads2 ys b) ty outer path f hx laid values owners room private local printed =
+      along_phases (Map (Over Groups dimension.X) m loads2 ys b) ty outer path f hx laid values owners room private local printed =
           let none = inputs_no_privates ys f.0 in
           let e : 0 + private_count ys ≡ 0 = omega arith in
           map_phases m loads2 ys b hx.0 hx.1 outer path hx.5 hx.3 f.0 hx.4 f.1 hx.2 (subst (λ z. IsLaid whole (ArrayOf (num n) z) outer path) hx.6 laid)
@@ -423,10 +425,10 @@ module _ {A : Type 0} (num : A → ℕ) (forms : GridForms A) (k : Kernel) (l : 
         (given_push g env sems x.0 (argument_marks l ins num env 0 v) (scalars_of num sources sems v) (input_given v g env sems x.0 0 f.0 x.1 given) given) laid values (most_second (variable_count v) (variable_count b) (declared k) room)
         (subst (λ z. Declares long z b) e private.1) (subst (λ z. AreLong LocalArray long 0 (z ++ copy_lengths LocalMemory b)) (inputs_no_copies LocalMemory v f.0) local) printed in
         record { body = r.body; once_is = r.once_is; is = r.is; uses_are = r.uses_are; count_is = r.count_is; printed = r.printed }
-    term_phases (Map WorkGroupRows n loads xs b) g env sems outer path ty f x given laid values room private local printed =
+    term_phases (Map (Over Groups dimension.Y) n loads xs b) g env sems outer path ty f x given laid values room private local printed =
         let none = inputs_no_privates xs f.0 in
         let e : 0 + private_count xs ≡ 0 = omega arith in
-        let T = Map WorkGroupRows n loads xs b in
+        let T = Map (Over Groups dimension.Y) n loads xs b in
         let laid2 = subst (λ z. IsLaid whole z outer path) x.6 laid in
         let given_array = input_given xs g env sems (ArrayOf (num n) x.0) 0 f.0 x.4 given in
         along_phases g env sems n loads xs x.0 (λ w. owner num l T (path w)) (λ p. owner_below num l T (path p) h.launch h.some) x.2 x.3 given given_array printed.0 printed.1 printed.2 printed.3 printed.4 printed.5

@@ -1,8 +1,10 @@
 -- The uses of a term can be placed.
 use Rattle.std.proofs.Common.{◌≡◌, ℕ, zero, suc, ◌+◌, ◌<◌, ◌≤◌, List, [], ◌∷◌, ◌++◌, length, Bool, true, false, refl, arith}
 use Rattle.std.specs.Prelude.{All}
+use Rattle.lift_tree.specs.declared.term.Level.TheVariants.{Groups, Items}
+use Rattle.lift_tree.specs.declared.term.Dimension.TheVariants as dimension
 use Rattle.barrier_placement.specs.declared.touches.Touch.{Touch}
-use Rattle.lift_ir.specs.Terms.{WorkGroup, Local, LocalMemory, Term, Bound, Source, Both, Project, Reshape, LetArray, Map, Copy, push}
+use Rattle.lift_ir.specs.Terms.{Over, LocalMemory, Term, Bound, Source, Both, Project, Reshape, LetArray, Map, Copy, push}
 use Rattle.printed_form.specs.Counts.{local_count}
 use Rattle.group_form.specs.Forms.{StandsInGroup, StandsOverGroups}
 use Rattle.group_form.specs.Origins.{Origin, Elsewhere, origin_of}
@@ -33,13 +35,13 @@ module _ {A : Type 0} where
     written_long (Reshape y a) env k d direct f = written_long a env k d false f.1
     written_long (LetArray v b) env k d direct f =
         joined (phases_in v) (phases_in b) (argument_uses env k v) (written_uses (push (origin_of env k v) env) (k + local_count v) b d direct) (argument_long v env k f.0) (written_long b (push (origin_of env k v) env) (k + local_count v) d direct f.1)
-    written_long (Map Local n loads xs b) env k d direct f = joined (phases_in xs) 1 (argument_uses env k xs) (loop_uses env (origin_of env k xs) loads b d direct ∷ []) (argument_long xs env k f.0) refl
+    written_long (Map (Over Items dimension.X) n loads xs b) env k d direct f = joined (phases_in xs) 1 (argument_uses env k xs) (loop_uses env (origin_of env k xs) loads b d direct ∷ []) (argument_long xs env k f.0) refl
     written_long _ env k d direct f = absurd (assumption)
 
   uses_long : (t : Term A) → StandsOverGroups t → length (group_uses t) ≡ phase_count t
   uses_long (Reshape y t) f = uses_long t f.1
   uses_long (LetArray v b) f = uses_long b f.1
-  uses_long (Map WorkGroup n loads xs b) f = written_long b (λ v. Elsewhere) 0 Outputs false f.1
+  uses_long (Map (Over Groups dimension.X) n loads xs b) f = written_long b (λ v. Elsewhere) 0 Outputs false f.1
   uses_long _ f = absurd (assumption)
 
 abbrev pub Below : ℕ → List Touch → Type 0

@@ -1,5 +1,7 @@
 -- What the printer prints for a map over work-groups is printed for it.
 use Rattle.std.proofs.Common.{◌≡◌, ℕ, suc, ◌+◌, ◌<◌, ◌^◌, Bool, true, false, List, [], ◌∷◌, ◌++◌, ◌*◌, length, length-append, refl, subst, arith}
+use Rattle.lift_tree.specs.declared.term.Level.TheVariants.{Groups, Items}
+use Rattle.lift_tree.specs.declared.term.Dimension.TheVariants.{X}
 use Rattle.kernel_tree.specs.Formula.{Formula, LoopVariable}
 use Rattle.kernel_tree.specs.Code.{Input, Output, Local as LocalArray, Code, End, start_value, stride_value}
 use Rattle.kernel_tree.specs.Launch.{Launch, ids_of}
@@ -7,7 +9,7 @@ use Rattle.barrier_placement.specs.Fencing.{Fencing}
 use Rattle.lift_ir.specs.Types.{Ty, PairOf, ArrayOf, measured}
 use Rattle.lift_ir.specs.Fours.{Lie, Whole, element_lie, written_lie, bound_lie, LoadsFours, Lies, ReadsFours, WritesFours, no_lie}
 use Rattle.lift_ir.specs.Layouts.{result_position}
-use Rattle.lift_ir.specs.Terms.{LoadSet, LoadsScalars, WorkGroup, Local, LocalMemory, Term, Bound, Source, Both, Project, Reshape, LetArray, Map, Copy, push, HasType, no_type}
+use Rattle.lift_ir.specs.Terms.{LoadSet, LoadsScalars, Over, LocalMemory, Term, Bound, Source, Both, Project, Reshape, LetArray, Map, Copy, push, HasType, no_type}
 use Rattle.lift_ir.specs.Scalars.{at_index}
 use Rattle.lift_ir.specs.Loads.{covers, none, held_scalars, LoadsSuffice}
 use Rattle.printed_form.specs.Arguments.{private_arrays, argument_view, local_arrays}
@@ -58,10 +60,10 @@ module _ (l : Launch) {A : Type 0} (num : A → ℕ) (forms : MapForms A) (spell
   local_map_is : (item : ℕ) (form : MapForm) (len : A) (t : Term A) (ts : List ℕ) (depth : ℕ) (loads : LoadSet) (p z : Lie) (x y : Ty) (e v : View) (f w : Marks) (lies : ℕ → Lie) (g : ℕ → Ty) (views : ℕ → View) (env : ℕ → Marks) (h : ℕ → List Bool → Bool) (a : ℕ) (n : Count) (rest : Code)
       → length ts ≡ depth → num len < 2 ^ 31 → LoadsScalars loads x → HasType num src (push x g) t y → LoadsSuffice (push (covers loads) h) t → Stands true t → LoadsFours (element_lie p) loads → WritesFours (push (bound_lie loads (element_lie p)) lies) (element_lie z) t
       → CellsAs l item p ts (ArrayOf (num len) x) e f → CellsAs l item z ts (ArrayOf (num len) y) v w → AllShow l item ts lies g views env → AllShow l item ts (λ v. Whole) src sins ins → HeldIn g views env h
-      → AreTurns l item ins form Local ts (num len)
+      → AreTurns l item ins form (Over Items X) ts (num len)
       (λ us j body last. (inner : Code) × IsLoaded l item ins us loads (at_index j f) n body inner × IsWritten l item ins num us (push (loaded_marks loads (at_index j f) n) env) a (more n (load_count loads)) t (at_index j w) inner last)
-      (print_turns form Local (spell len)
-      (λ last. print_loaded loads (view_at (turn_formula form Local depth) e) n (print_written spell sins (depth_in form depth) (push (loaded_view loads (view_at (turn_formula form Local depth) e) n) views) a (more n (load_count loads)) t (view_at (turn_formula form Local depth) v) last)) rest) rest
+      (print_turns form (Over Items X) (spell len)
+      (λ last. print_loaded loads (view_at (turn_formula form (Over Items X) depth) e) n (print_written spell sins (depth_in form depth) (push (loaded_view loads (view_at (turn_formula form (Over Items X) depth) e) n) views) a (more n (load_count loads)) t (view_at (turn_formula form (Over Items X) depth) v) last)) rest) rest
   local_map_is item Looped len t ts depth loads p z x y e v f w lies g views env h a n rest d short ok typed nm sd fours writes c cells es gs r = (
     spell len,
     print_loaded loads (view_at (LoopVariable depth) e) n (print_written spell sins (suc depth) (push (loaded_view loads (view_at (LoopVariable depth) e) n) views) a (more n (load_count loads)) t (view_at (LoopVariable depth) v) End),
@@ -74,13 +76,13 @@ module _ (l : Launch) {A : Type 0} (num : A → ℕ) (forms : MapForms A) (spell
   )
   local_map_is item Guarded len t ts depth loads p z x y e v f w lies g views env h a n rest d short ok typed nm sd fours writes c cells es gs r = (
     spell len,
-    print_loaded loads (view_at (id_of Local) e) n (print_written spell sins depth (push (loaded_view loads (view_at (id_of Local) e) n) views) a (more n (load_count loads)) t (view_at (id_of Local) v) End),
+    print_loaded loads (view_at (id_of (Over Items X)) e) n (print_written spell sins depth (push (loaded_view loads (view_at (id_of (Over Items X)) e) n) views) a (more n (load_count loads)) t (view_at (id_of (Over Items X)) v) End),
     refl,
     (spelled len short).0,
-    λ j jl mine. inner_is item t ts depth (id_of Local) j loads (element_lie p) (element_lie z) x y e v f w lies g views env h a n End d ok typed nm sd fours writes (own_as l item p ts Local j (num len) x e f mine jl short c) (own_as l item z ts Local j (num len) y v w mine jl short cells) es gs r,
+    λ j jl mine. inner_is item t ts depth (id_of (Over Items X)) j loads (element_lie p) (element_lie z) x y e v f w lies g views env h a n End d ok typed nm sd fours writes (own_as l item p ts (Over Items X) j (num len) x e f mine jl short c) (own_as l item z ts (Over Items X) j (num len) y v w mine jl short cells) es gs r,
   )
   local_map_is item Alone len t ts depth loads p z x y e v f w lies g views env h a n rest d short ok typed nm sd fours writes c cells es gs r =
-      λ j jl mine. inner_is item t ts depth (id_of Local) j loads (element_lie p) (element_lie z) x y e v f w lies g views env h a n rest d ok typed nm sd fours writes (own_as l item p ts Local j (num len) x e f mine jl short c) (own_as l item z ts Local j (num len) y v w mine jl short cells) es gs r
+      λ j jl mine. inner_is item t ts depth (id_of (Over Items X)) j loads (element_lie p) (element_lie z) x y e v f w lies g views env h a n rest d ok typed nm sd fours writes (own_as l item p ts (Over Items X) j (num len) x e f mine jl short c) (own_as l item z ts (Over Items X) j (num len) y v w mine jl short cells) es gs r
 
   -- within a map over groups in a form
   module _ (outer : MapForm) (turns : ℕ) where
@@ -91,7 +93,7 @@ module _ (l : Launch) {A : Type 0} (num : A → ℕ) (forms : MapForms A) (spell
     depth = depth_in outer 0
 
     abbrev Own : (item i : ℕ) → Type 0
-    Own item i = IsTurnOf l item WorkGroup i
+    Own item i = IsTurnOf l item (Over Groups X) i
 
     around_long : (i : ℕ) → length (around i) ≡ depth
     around_long i = by_form outer
@@ -172,7 +174,7 @@ module _ (l : Launch) {A : Type 0} (num : A → ℕ) (forms : MapForms A) (spell
             argument_is s lies g views env h u ok.0 next ok.1 nm.0 sd.0 fs.2 es gs r,
             group_written_is b (push fs.0 lies) (push ok.0 g) (push x views) (λ i. push (y i) (env i)) (push (held_scalars h s) h) (used_after u s) ty z v w rest ok.2 nm.1 sd.1 fs.3 (let_shows s lies g views env h u.locals ok.0 fs.0 ok.1 nm.0 sd.0 es gs fs.1) gs (let_holds s g views env h u.locals ok.0 ok.1 r) cells,
           )
-      group_written_is (Map Local z0 loads xs b) lies g views env h u ty z v w rest ok nm sd fs es gs r cells =
+      group_written_is (Map (Over Items X) z0 loads xs b) lies g views env h u ty z v w rest ok nm sd fs es gs r cells =
           let len = num z0 in
           let e = argument_view local_arrays spell sins views u.locals xs in
           let f = marks_of num ins env u.locals xs in
@@ -196,12 +198,12 @@ module _ (l : Launch) {A : Type 0} (num : A → ℕ) (forms : MapForms A) (spell
       argument_shows private_arrays l item num spell spelled src ins sins [] gs t lies g views env h a ty z (stands_argument t (inputs_stand t sd)) ok nm es s
 
   -- what lies at a group's turn
-  group_as : (once : Bool) (len : ℕ) → (once ≡ true → len ≡ 1) → (item i : ℕ) (z : Lie) (t : Ty) (x : View) (y : Marks) → i < len → IsTurnOf l item WorkGroup i → len < 2 ^ 31 → CellsAs l item z [] (ArrayOf len t) x y
-      → CellsAs l item (element_lie z) (variables_in (form_over_groups once) [] i) t (view_at (turn_formula (form_over_groups once) WorkGroup 0) x) (at_index i y)
+  group_as : (once : Bool) (len : ℕ) → (once ≡ true → len ≡ 1) → (item i : ℕ) (z : Lie) (t : Ty) (x : View) (y : Marks) → i < len → IsTurnOf l item (Over Groups X) i → len < 2 ^ 31 → CellsAs l item z [] (ArrayOf len t) x y
+      → CellsAs l item (element_lie z) (variables_in (form_over_groups once) [] i) t (view_at (turn_formula (form_over_groups once) (Over Groups X) 0) x) (at_index i y)
   group_as false len one item i z t x y il own short h = turned_as l item z [] 0 i len t x y refl il short h
   group_as true len one item i z t x y il own short h =
       let e = one refl in
-      own_as l item z [] WorkGroup i len t x y (first_start i (start_value (ids_of l item) (start_of WorkGroup)) (own.0 * stride_value (ids_of l item) (stride_of WorkGroup)) (omega arith) own.1) il short h
+      own_as l item z [] (Over Groups X) i len t x y (first_start i (start_value (ids_of l item) (start_of (Over Groups X))) (own.0 * stride_value (ids_of l item) (stride_of (Over Groups X))) (omega arith) own.1) il short h
     where
       first_start : (i s m : ℕ) → i < 1 → i ≡ s + m → i ≡ s
       first_start i s m lt e = omega arith
@@ -217,10 +219,10 @@ module _ (l : Launch) {A : Type 0} (num : A → ℕ) (forms : MapForms A) (spell
       over_groups_is b (push fs.0 lies) (push ok.0 g) (push x views) (push y env) (push (held_scalars h s) h) ty z v w ok.2 nm.1 sd.1 fs.3
       (λ item. let p = input_shows item s lies g views env h 0 ok.0 fs.0 ok.1 nm.0 sd.0 (es item) (gs item) fs.1 in all_push l item [] fs.0 ok.0 x y lies g views env (showing l item fs.0 [] ok.0 x y p.0 p.1) (es item)) gs
       (held_push ok.0 x y (held_scalars h s) g views env h (λ cs q k. kept_is private_arrays num spell src ins sins s g views env h 0 ok.0 cs ok.1 q k r) r) cells
-  over_groups_is (Map WorkGroup z0 loads xs b) lies g views env h ty z v w ok nm sd fs es gs r cells =
+  over_groups_is (Map (Over Groups X) z0 loads xs b) lies g views env h ty z v w ok nm sd fs es gs r cells =
       let len = num z0 in
       let outer = form_over_groups (forms.once z0) in
-      let turn = turn_formula outer WorkGroup 0 in
+      let turn = turn_formula outer (Over Groups X) 0 in
       let e = argument_view private_arrays spell sins views 0 xs in
       let f = argument_marks l ins num env 0 xs in
       let el = view_at turn e in
@@ -232,7 +234,7 @@ module _ (l : Launch) {A : Type 0} (num : A → ℕ) (forms : MapForms A) (spell
       let first = print_group_written spell forms sins fence (depth_in outer 0) (push x views) u b (view_at turn v) last in
       let shows = λ (item : ℕ). input_shows item xs lies g views env h 0 (ArrayOf len ok.0) fs.0 ok.4 nm.0 sd.0 (es item) (gs item) fs.1 in
       let cells2 = λ (item : ℕ). subst (λ t. CellsAs l item z [] t v w) ok.6 (cells item) in
-      let c = λ (item i : ℕ) (il : i < len) (own : IsTurnOf l item WorkGroup i). group_as (forms.once z0) len (makes.once z0) item i fs.0 ok.0 e f il own ok.2 (shows item) in (
+      let c = λ (item i : ℕ) (il : i < len) (own : IsTurnOf l item (Over Groups X) i). group_as (forms.once z0) len (makes.once z0) item i fs.0 ok.0 e f il own ok.2 (shows item) in (
         spell z0,
         print_loaded loads el no_variables first,
         refl,

@@ -1,11 +1,11 @@
 -- What is shown at a turn that an id is, and in the loops that a map's form adds.
 use Rattle.std.proofs.Common.{◌≡◌, ℕ, ◌<◌, ◌^◌, List, [], ◌∷◌, ◌++◌, length, Some, sym, ap, arith}
-use Rattle.kernel_tree.specs.Code.{Array, start_value}
+use Rattle.kernel_tree.specs.Code.{Array, Start, FromZero, FromGlobalId, FromGroupId, FromLocalId, start_value}
 use Rattle.kernel_tree.specs.Formula.{Formula, LoopVariable}
 use Rattle.kernel_tree.specs.Launch.{Launch, ids_of}
 use Rattle.lift_ir.specs.Fours.{Lie, Whole, Serves, element_lie, written_lie}
 use Rattle.lift_ir.specs.Layouts.{Layout, Reshapes, result_position, IsInvertible}
-use Rattle.lift_ir.specs.Terms.{Kind, Global, WorkGroup, Local, Sequential, GlobalRows, WorkGroupRows, LocalRows}
+use Rattle.lift_ir.specs.Terms.{Kind}
 use Rattle.lift_ir.specs.Scalars.{at_index}
 use Rattle.lift_ir.specs.Types.{Shape, Ty, ArrayOf, IsShort, IsPlaced, measured}
 use Rattle.printed_form.specs.Form.{start_of}
@@ -16,22 +16,19 @@ use Rattle.printed_form.specs.Views.{View, view_at, rewritten_view, placed_view}
 use Rattle.printed_form.proofs.Indices.{placed_cells, placed_whole}
 use Rattle.printed_form.proofs.Lies.{all_within, element_lies, turned_lies, written_lies, lie_serves}
 use Rattle.printed_form.proofs.Shown.{cells_show, turned_cells, back_cells}
-use Rattle.group_form.specs.Printer.{id_of}
+use Rattle.group_form.specs.Printer.{id_of, start_formula}
 
 module _ (l : Launch) (item : ℕ) where
   -- it has these cells, and lies so
   abbrev pub CellsAs : Lie → List ℕ → Ty → View → Marks → Type 0
   CellsAs z ts t x y = HasCells l item ts t x y × LiesAs l item z ts t x y
 
-  -- an id that is the turn
-  id_means : (k : Kind) (i : ℕ) (ts : List ℕ) → i ≡ start_value (ids_of l item) (start_of k) → i < 2 ^ 31 → Means l item ts (id_of k) i
-  id_means Global i ts own lt = record { fits = omega arith; always = λ vs. ap Some (sym own) }
-  id_means WorkGroup i ts own lt = record { fits = omega arith; always = λ vs. ap Some (sym own) }
-  id_means Local i ts own lt = record { fits = omega arith; always = λ vs. ap Some (sym own) }
-  id_means Sequential i ts own lt = record { fits = omega arith; always = λ vs. ap Some (sym own) }
-  id_means GlobalRows i ts own lt = record { fits = omega arith; always = λ vs. ap Some (sym own) }
-  id_means WorkGroupRows i ts own lt = record { fits = omega arith; always = λ vs. ap Some (sym own) }
-  id_means LocalRows i ts own lt = record { fits = omega arith; always = λ vs. ap Some (sym own) }
+  -- what a map begins with means its first turn
+  pub start_means : (s : Start) (i : ℕ) (ts : List ℕ) → i ≡ start_value (ids_of l item) s → i < 2 ^ 31 → Means l item ts (start_formula s) i
+  start_means FromZero i ts own lt = record { fits = omega arith; always = λ vs. ap Some (sym own) }
+  start_means (FromGlobalId d) i ts own lt = record { fits = omega arith; always = λ vs. ap Some (sym own) }
+  start_means (FromGroupId d) i ts own lt = record { fits = omega arith; always = λ vs. ap Some (sym own) }
+  start_means (FromLocalId d) i ts own lt = record { fits = omega arith; always = λ vs. ap Some (sym own) }
 
   -- a formula that is the turn, in any further loops
   pub element_as : (z : Lie) (ts : List ℕ) (f : Formula) (i n : ℕ) (t : Ty) (x : View) (y : Marks) → ((us : List ℕ) → Means l item (ts ++ us) f i) → i < n → CellsAs z ts (ArrayOf n t) x y → CellsAs (element_lie z) ts t (view_at f x) (at_index i y)
@@ -41,7 +38,7 @@ module _ (l : Launch) (item : ℕ) where
       one o m c us cs is q w g = c us cs (f ∷ is) (i ∷ q) (lt, w) (means us, g)
 
   pub own_as : (z : Lie) (ts : List ℕ) (k : Kind) (i n : ℕ) (t : Ty) (x : View) (y : Marks) → i ≡ start_value (ids_of l item) (start_of k) → i < n → n < 2 ^ 31 → CellsAs z ts (ArrayOf n t) x y → CellsAs (element_lie z) ts t (view_at (id_of k) x) (at_index i y)
-  own_as z ts k i n t x y own lt small h = element_as z ts (id_of k) i n t x y (λ us. id_means k i (ts ++ us) own (omega arith)) lt h
+  own_as z ts k i n t x y own lt small h = element_as z ts (id_of k) i n t x y (λ us. start_means (start_of k) i (ts ++ us) own (omega arith)) lt h
 
   pub turned_as : (z : Lie) (ts : List ℕ) (d i n : ℕ) (t : Ty) (x : View) (y : Marks) → length ts ≡ d → i < n → n < 2 ^ 31 → CellsAs z ts (ArrayOf n t) x y → CellsAs (element_lie z) (ts ++ i ∷ []) t (view_at (LoopVariable d) x) (at_index i y)
   turned_as z ts d i n t x y e lt small h = (turned_cells l item ts d i n t x y e lt small h.0, turned_lies l item z ts d i n t x y e lt small h.1)

@@ -1,10 +1,12 @@
 -- The phases of a term see what they read, by induction on it.
 use Rattle.std.proofs.Common.{◌≡◌, ℕ, zero, suc, ◌+◌, ◌<◌, ◌≤◌, ◌^◌, List, [], ◌∷◌, ◌++◌, length, Bool, true, false, true≢false, refl, sym, ap, ◌∙◌, subst, arith}
+use Rattle.lift_tree.specs.declared.term.Level.TheVariants.{Items}
+use Rattle.lift_tree.specs.declared.term.Dimension.TheVariants.{X}
 use Rattle.kernel_tree.specs.Code.{Array, Local as LocalArray}
 use Rattle.kernel_tree.specs.Launch.{Launch, Cells}
 use Rattle.lift_ir.specs.Types.{Ty, PairOf, ArrayOf, IsPosition, IsFlat, width, size}
 use Rattle.lift_ir.specs.Layouts.{Layout, operand_position, result_position, Reshapes, IsInvertible}
-use Rattle.lift_ir.specs.Terms.{LoadSet, Local, LocalMemory, Term, Bound, Source, Both, Project, Reshape, LetArray, Map, Copy, LoadsScalars, push, HasType}
+use Rattle.lift_ir.specs.Terms.{LoadSet, Over, LocalMemory, Term, Bound, Source, Both, Project, Reshape, LetArray, Map, Copy, LoadsScalars, push, HasType}
 use Rattle.lift_ir.specs.Scalars.{Scalars, scalars_of}
 use Rattle.lift_ir.proofs.Positions.{operand_in, result_in, result_operand}
 use Rattle.printed_form.specs.Counts.{more, AtMost, load_count, variable_count, private_count, local_count}
@@ -262,7 +264,7 @@ module _ {A : Type 0} (num : A → ℕ) (long : Array → ℕ) (l : Launch) (few
         let two = works x t ty h.2 (q + length xs) d outer path direct f.1 (bound_in (q + length xs) s v h.0 (scoped_later q (q + length xs) s (omega arith) scoped) one.1) (each_right (λ r t. stage_at b.stages r ≡ t) q xs ys is) aimed fit (λ e. let z = ends e in omega arith) private.1 local.1 (most_rest s.variables (variable_count v) (variable_count x) b.variables room) (most_later (load_count b.top.loads) s.variables (variable_count v) low) in
         let final = two.1.ends in
         (each_append IsStage q xs ys one.0 two.0, record { at = two.1.at; ends = omega arith; goes = two.1.goes; stage = two.1.stage; value = λ i cs p. two.1.value i cs p; rows = λ p. two.1.rows p })
-    works (Map Local n loads xs body) s ty h q d outer path direct f scoped is aimed fit ends private local room low =
+    works (Map (Over Items X) n loads xs body) s ty h q d outer path direct f scoped is aimed fit ends private local room low =
         let ss = argument_stages s xs (ArrayOf (num n) h.0) h.4 in
         let t = stages.stage_of num b.forms b.ins b.src b.sources s n loads xs body h.0 h.1 d outer path direct in
         let r = q + length ss in

@@ -3,8 +3,10 @@ use Rattle.std.proofs.Common.{◌<◌, [], true, sym, ◌∙◌, arith}
 use Rattle.barrier_placement.specs.Conflicts as placed
 use Rattle.barrier_placement.specs.Laws.{NeededBarriersSeparate}
 use Rattle.lift_tree.specs.Meaning.{meaning}
+use Rattle.lift_tree.specs.declared.term.Level.TheVariants.{Groups, Items}
+use Rattle.lift_tree.specs.declared.term.Dimension.TheVariants.{X}
 use Rattle.lift_ir.specs.Scalars.{scalars_of, no_scalars, lists_of}
-use Rattle.lift_ir.specs.Terms.{WorkGroup, Local, Term, Reshape, LetArray, Map, no_type}
+use Rattle.lift_ir.specs.Terms.{Over, Term, Reshape, LetArray, Map, no_type}
 use Rattle.lift_ir.proofs.Meaning.{means}
 use Rattle.lift_ir.proofs.Lists.{are_lists, lists_long}
 use Rattle.group_phases.specs.Printed.{PhasesKeep, PhasesServe}
@@ -20,13 +22,13 @@ use Rattle.group_form.proofs.Whole.{separated_keep, separated_serve}
 some_phases : {A : Type 0} (t : Term A) → StandsInGroup true t → 0 < phases_in t
 some_phases (Reshape y t) f = some_phases t f.1
 some_phases (LetArray v b) f = let e = some_phases b f.1 in omega arith
-some_phases (Map Local n loads xs b) f = omega arith
+some_phases (Map (Over Items X) n loads xs b) f = omega arith
 some_phases _ f = absurd (assumption)
 
 pub some_phase : {A : Type 0} (t : Term A) → StandsOverGroups t → 0 < phase_count t
 some_phase (Reshape y t) f = some_phase t f.1
 some_phase (LetArray v b) f = some_phase b f.1
-some_phase (Map WorkGroup n loads xs b) f = some_phases b f.1
+some_phase (Map (Over Groups X) n loads xs b) f = some_phases b f.1
 some_phase _ f = absurd (assumption)
 
 pub needed_keep_apart : NeededBarriersSeparate → (A : Type 0) → NeededKeepApart A

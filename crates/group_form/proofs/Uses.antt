@@ -2,13 +2,15 @@
 -- them.
 use Rattle.std.proofs.Common.{◌≡◌, ℕ, zero, suc, ◌+◌, ◌<◌, ◌⊎◌, ⊎_elim, inl, inr, List, [], ◌∷◌, ◌++◌, length, Bool, true, false, refl, sym, ap, ◌∙◌, subst, arith}
 use Rattle.std.specs.Prelude.{All}
+use Rattle.lift_tree.specs.declared.term.Level.TheVariants.{Items}
+use Rattle.lift_tree.specs.declared.term.Dimension.TheVariants.{X}
 use Rattle.kernel_tree.specs.Faults.{Among}
 use Rattle.barrier_placement.specs.declared.touches.Touch.{Touch}
 use Rattle.barrier_placement.specs.Conflicts as placed
 use Rattle.barrier_placement.specs.Conflicts.{space_of}
 use Rattle.lift_ir.specs.Types.{Ty, PairOf, ArrayOf, width}
 use Rattle.lift_ir.specs.Layouts.{operand_position, result_position}
-use Rattle.lift_ir.specs.Terms.{Local, LocalMemory, Term, Bound, Source, Both, Project, Reshape, LetArray, Map, Copy, HasType}
+use Rattle.lift_ir.specs.Terms.{Over, LocalMemory, Term, Bound, Source, Both, Project, Reshape, LetArray, Map, Copy, HasType}
 use Rattle.lift_ir.specs.Scalars.{Scalars}
 use Rattle.printed_form.specs.Counts.{local_count}
 use Rattle.printed_form.specs.MapForms.{MapForms}
@@ -166,7 +168,7 @@ module _ {A : Type 0} (num : A → ℕ) (forms : MapForms A) (ins : ℕ → Mark
     written_uses_are (Reshape y a) s ty h d outer path direct f = written_uses_are a s h.0 h.1 d (λ p. outer (result_position num y p)) (λ p. operand_position num y (path p)) false f.1
     written_uses_are (LetArray v b) s ty h d outer path direct f =
         both (argument_stages s v h.0 h.1) (written_stages (bind s v h.0) b ty h.2 d outer path direct) (argument_uses s.origins s.locals v) (written_uses (bind s v h.0).origins (s.locals + local_count v) b d direct) (argument_uses_are v s h.0 h.1 f.0) (written_uses_are b (bind s v h.0) ty h.2 d outer path direct f.1)
-    written_uses_are (Map Local n loads xs b) s ty h d outer path direct f =
+    written_uses_are (Map (Over Items X) n loads xs b) s ty h d outer path direct f =
         let t = stages.stage_of num forms ins src sources s n loads xs b h.0 h.1 d outer path direct in
         both (argument_stages s xs (ArrayOf (num n) h.0) h.4) (t ∷ []) (argument_uses s.origins s.locals xs) (uses_in t ∷ []) (argument_uses_are xs s (ArrayOf (num n) h.0) h.4 f.0) refl
     written_uses_are _ s ty h d outer path direct f = absurd (assumption)

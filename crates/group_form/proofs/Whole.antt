@@ -2,6 +2,8 @@
 use Rattle.std.proofs.Common.{◌≡◌, ℕ, zero, suc, ◌+◌, ◌*◌, ◌%◌, ◌<◌, ◌≤◌, ⊎_elim, ◌^◌, List, [], ◌∷◌, ◌++◌, length, Bool, true, false, true≢false, refl, sym, ap, ◌∙◌, subst, arith}
 use Rattle.std.specs.Prelude.{map, replicate, slice_index}
 use Rattle.std.proofs.Math.Nat.{mod-eq_of_lt}
+use Rattle.lift_tree.specs.declared.term.Level.TheVariants.{Groups, Items}
+use Rattle.lift_tree.specs.declared.term.Dimension.TheVariants.{X}
 use Rattle.kernel_tree.specs.Code.{Array, Local as LocalArray, Output, Kernel, End}
 use Rattle.kernel_tree.specs.Launch as launches
 use Rattle.kernel_tree.specs.Launch.{Launch, Cells, IsWhole, item_count, groups_across}
@@ -12,9 +14,9 @@ use Rattle.barrier_placement.specs.Fencing.{Fencing, Open}
 use Rattle.barrier_placement.specs.Separates.{Separates}
 use Rattle.lift_ir.specs.Types.{Ty, Scalar, PairOf, ArrayOf, IsPosition, IsFlat, width, size, unflat}
 use Rattle.lift_ir.specs.Layouts.{operand_position, result_position}
-use Rattle.lift_ir.specs.Terms.{LoadSet, WorkGroup, Local, LocalMemory, Term, Bound, Source, Both, Project, Reshape, LetArray, Map, LoadsScalars, push, HasType, no_type}
+use Rattle.lift_ir.specs.Terms.{LoadSet, Over, LocalMemory, Term, Bound, Source, Both, Project, Reshape, LetArray, Map, LoadsScalars, push, HasType, no_type}
 use Rattle.lift_ir.specs.Scalars.{Scalars, by_side, at_index, scalars_of, no_scalars, AreLists}
-use Rattle.lift_ir.specs.Owner.{local_owner, owner, is_in_rows}
+use Rattle.lift_ir.specs.Owner.{local_along, owner, is_in_rows}
 use Rattle.lift_ir.proofs.Owner.{owner_below}
 use Rattle.lift_ir.proofs.Positions.{operand_in, result_in}
 use Rattle.printed_form.specs.Counts.{more, no_variables, AtMost, load_count, variable_count, private_count, copy_lengths}
@@ -54,11 +56,11 @@ use Rattle.group_form.proofs.Outputs as outputs
 use Rattle.group_form.proofs.Outputs.{IsLaid, laid_under, laid_itself}
 
 -- the owner of a scalar of a group's turn
-owner_of_row : {A : Type 0} (num : A → ℕ) (l : Launch) (t : Term A) (p : List ℕ) → 0 < l.local.0 → StandsInGroup true t → local_owner num l t p ≡ row_of num t p % l.local.0
+owner_of_row : {A : Type 0} (num : A → ℕ) (l : Launch) (t : Term A) (p : List ℕ) → 0 < l.local.0 → StandsInGroup true t → local_along X num l t p ≡ row_of num t p % l.local.0
 owner_of_row num l (Reshape y t) p some f = owner_of_row num l t (operand_position num y p) some f.1
 owner_of_row num l (LetArray v b) p some f = owner_of_row num l b p some f.1
-owner_of_row num l (Map Local n loads xs b) [] some f = sym (mod-eq_of_lt some)
-owner_of_row num l (Map Local n loads xs b) (j ∷ p) some f = refl
+owner_of_row num l (Map (Over Items X) n loads xs b) [] some f = sym (mod-eq_of_lt some)
+owner_of_row num l (Map (Over Items X) n loads xs b) (j ∷ p) some f = refl
 owner_of_row num l _ p some f = absurd (assumption)
 
 -- in the first row
@@ -69,7 +71,7 @@ first_line x g = omega arith
 not_in_rows : {A : Type 0} (t : Term A) → StandsOverGroups t → is_in_rows t ≡ false
 not_in_rows (Reshape y t) f = not_in_rows t f.1
 not_in_rows (LetArray v b) f = not_in_rows b f.1
-not_in_rows (Map WorkGroup n loads xs b) f = refl
+not_in_rows (Map (Over Groups X) n loads xs b) f = refl
 not_in_rows _ f = absurd (assumption)
 
 local_below : (g n m : ℕ) → g ≡ m * n → 0 < g → n ≤ g
@@ -152,7 +154,7 @@ module _ {A : Type 0} (num : A → ℕ) (forms : MapForms A) (k : Kernel) (l : L
     -- a map over groups
     module _ (g : ℕ → Ty) (env : ℕ → Marks) (sems : ℕ → Scalars) (n : A) (loads : LoadSet) (xs b : Term A) (x y : Ty) (outer path : List ℕ → List ℕ) (typed : HasType num src (push x g) b y) where
       abbrev term : Term A
-      term = Map WorkGroup n loads xs b
+      term = Map (Over Groups X) n loads xs b
 
       abbrev marks : Marks
       marks = argument_marks l ins num env 0 xs
@@ -253,7 +255,7 @@ module _ {A : Type 0} (num : A → ℕ) (forms : MapForms A) (k : Kernel) (l : L
                     shape = h.shape;
                     listed = h.listed;
                     values = λ cs i p z. values cs i p z ∙ sym (last.value i cs p);
-                    owned = λ i p. first_line ((i % groups_across l) * l.local.0 + local_owner num l b p) l.global.0 ∙ ap (λ z. (i % groups_across l) * l.local.0 + z) (owner_of_row num l b p h.launch.x.positive stands ∙ ap (λ z. z % l.local.0) (sym (last.rows p)));
+                    owned = λ i p. first_line ((i % groups_across l) * l.local.0 + local_along X num l b p) l.global.0 ∙ ap (λ z. (i % groups_across l) * l.local.0 + z) (owner_of_row num l b p h.launch.x.positive stands ∙ ap (λ z. z % l.local.0) (sym (last.rows p)));
                     within = λ p. owner_below num l term p h.launch h.some;
                   });
             });
@@ -285,7 +287,7 @@ module _ {A : Type 0} (num : A → ℕ) (forms : MapForms A) (k : Kernel) (l : L
         (given_push g env sems x.0 (argument_marks l ins num env 0 v) (scalars_of num sources sems v) (input_given v g env sems x.0 0 f.0 x.1 given) given) laid values (most_second (variable_count v) (variable_count b) (declared k) room)
         (subst (λ z. Declares long z b) e private.1) (subst (λ z. AreLong LocalArray long 0 (z ++ copy_lengths LocalMemory b)) (inputs_no_copies LocalMemory v f.0) local) code in
         record { body = r.body; once = r.once; is = r.is; touches = r.touches; count = r.count; some_phase = r.some_phase; printed = r.printed }
-    term_phases (Map WorkGroup n loads xs b) g env sems outer path ty f x given laid values room private local code =
+    term_phases (Map (Over Groups X) n loads xs b) g env sems outer path ty f x given laid values room private local code =
         let none = inputs_no_privates xs f.0 in
         let e : 0 + private_count xs ≡ 0 = omega arith in
         map_phases g env sems n loads xs b x.0 x.1 outer path x.5 f.0 f.1 x.2 x.3 x.4 given (subst (λ z. IsLaid whole z outer path) x.6 laid) (λ cs i p z. values cs (i ∷ p) (subst (λ w. IsPosition w cs (i ∷ p)) (sym x.6) z)) (most_second (variable_count xs) (more (load_count loads) (variable_count b)) (declared k) room)

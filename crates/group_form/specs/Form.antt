@@ -1,12 +1,14 @@
 -- Which code is printed for a map over work-groups, whose maps have given forms: local maps are
 -- phases, with whatever stands between them, and the code is one for all turns.
 use Rattle.std.specs.Prelude.{◌≡◌, ℕ, ◌+◌, ◌<◌, Bool, true, false, []}
+use Rattle.lift_tree.specs.declared.term.Level.TheVariants.{Groups, Items}
+use Rattle.lift_tree.specs.declared.term.Dimension.TheVariants.{X}
 use Rattle.kernel_tree.specs.Formula.{Formula}
 use Rattle.kernel_tree.specs.Code.{Local as LocalArray, Code, End}
 use Rattle.kernel_tree.specs.Launch.{Launch, item_count}
 use Rattle.barrier_placement.specs.Fencing.{Fencing}
 use Rattle.lift_ir.specs.Layouts.{result_position, IsInvertible}
-use Rattle.lift_ir.specs.Terms.{LoadSet, WorkGroup, Local, LocalMemory, Term, Bound, Source, Both, Project, Reshape, LetArray, Map, Copy, push}
+use Rattle.lift_ir.specs.Terms.{LoadSet, Over, LocalMemory, Term, Bound, Source, Both, Project, Reshape, LetArray, Map, Copy, push}
 use Rattle.lift_ir.specs.Scalars.{at_index}
 use Rattle.printed_form.specs.Counts.{Count, more, no_variables, load_count, variable_count, private_count, local_count}
 use Rattle.printed_form.specs.Marks.{Marks, laid_in, loaded_marks}
@@ -48,8 +50,8 @@ module _ {A : Type 0} (num : A → ℕ) (forms : MapForms A) (l : Launch) (ins :
     abbrev pub IsLocalMap : ((turn var : ℕ) → Marks) → Used → (len : A) → LoadSet
         → (marks : ℕ → Marks) → (body : Term A) → (to : ℕ → Marks) → (code rest : Code) → Type 0
     IsLocalMap env u len loads marks b w code rest =
-        (item i : ℕ) → item < item_count l → i < turns → IsTurnOf l item WorkGroup i
-        → AreTurns l item ins (forms.local len) Local (variables_in outer [] i) (num len)
+        (item i : ℕ) → item < item_count l → i < turns → IsTurnOf l item (Over Groups X) i
+        → AreTurns l item ins (forms.local len) (Over Items X) (variables_in outer [] i) (num len)
         (λ ts j body last. (inner : Code)
         × IsLoaded l item ins ts loads (at_index j (marks i)) u.variables body inner
         × IsWritten l item ins num ts
@@ -85,7 +87,7 @@ module _ {A : Type 0} (num : A → ℕ) (forms : MapForms A) (l : Launch) (ins :
           (mid : Code) × IsGroupArgument env u v code mid
           × IsGroupWritten (λ i. push (marks_of num ins env u.locals v i) (env i))
           (used_after u v) b w mid rest
-      IsGroupWritten env u (Map Local n loads xs b) w code rest =
+      IsGroupWritten env u (Map (Over Items X) n loads xs b) w code rest =
           (mid mid2 : Code) × IsGroupArgument env u xs code mid
           × IsPast (fence (u.phases + phases_in xs)) mid mid2
           × IsLocalMap env (used_after u xs) n loads
@@ -98,7 +100,7 @@ module _ {A : Type 0} (num : A → ℕ) (forms : MapForms A) (l : Launch) (ins :
         → Code → Type 0
     IsGroupTurn env loads marks b w code =
         (first last : Code)
-        × ((item i : ℕ) → item < item_count l → i < turns → IsTurnOf l item WorkGroup i
+        × ((item i : ℕ) → item < item_count l → i < turns → IsTurnOf l item (Over Groups X) i
         → IsLoaded l item ins (variables_in outer [] i) loads (at_index i marks) no_variables code
         first)
         × IsGroupWritten (λ i. push (loaded_marks loads (at_index i marks) no_variables) env)
@@ -112,9 +114,9 @@ module _ {A : Type 0} (num : A → ℕ) (forms : MapForms A) (l : Launch) (ins :
       IsInvertible y × IsOverGroups fence env t (λ cs p. w cs (result_position num y p)) code
   IsOverGroups fence env (LetArray v b) w code =
       IsOverGroups fence (push (argument_marks l ins num env 0 v) env) b w code
-  IsOverGroups fence env (Map WorkGroup n loads xs b) w code =
+  IsOverGroups fence env (Map (Over Groups X) n loads xs b) w code =
       (bound : Formula) × (body : Code)
-      × (code ≡ statement_over_groups (forms.once n) bound body)
+      × (code ≡ statement_over_groups X (forms.once n) bound body)
       × IsLength l ins bound (num n)
       × IsGroupTurn fence (form_over_groups (forms.once n)) (num n) env loads
       (argument_marks l ins num env 0 xs) b w body

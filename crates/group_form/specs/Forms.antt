@@ -1,15 +1,17 @@
 -- Which terms can stand in a map over work-groups.
 use Rattle.std.specs.Prelude.{Bool, true, false}
+use Rattle.lift_tree.specs.declared.term.Level.TheVariants.{Groups, Items}
+use Rattle.lift_tree.specs.declared.term.Dimension.TheVariants.{X}
 use Rattle.lift_ir.specs.Layouts.{IsInvertible}
 use Rattle.lift_ir.specs.Forms.{Stands}
-use Rattle.lift_ir.specs.Terms.{WorkGroup, Local, LocalMemory, Term, Bound, Source, Both, Project, Reshape, LetArray, Map, Copy}
+use Rattle.lift_ir.specs.Terms.{Over, LocalMemory, Term, Bound, Source, Both, Project, Reshape, LetArray, Map, Copy}
 
 -- for the items of a group together, outside local maps: a local map seen through layouts and lets
 -- (true), or an argument (false), whose copies to local memory are such
 abbrev pub StandsInGroup : {A : Type 0} → (written : Bool) → Term A → Type 0
 StandsInGroup true (Reshape y t) = IsInvertible y × StandsInGroup true t
 StandsInGroup true (LetArray v b) = StandsInGroup false v × StandsInGroup true b
-StandsInGroup true (Map Local n loads xs b) = StandsInGroup false xs × Stands true b
+StandsInGroup true (Map (Over Items X) n loads xs b) = StandsInGroup false xs × Stands true b
 StandsInGroup true _ = ⊥
 StandsInGroup false (Bound v) = Unit {0}
 StandsInGroup false (Source a) = Unit {0}
@@ -34,5 +36,5 @@ IsOfInputs _ = ⊥
 abbrev pub StandsOverGroups : {A : Type 0} → Term A → Type 0
 StandsOverGroups (Reshape y t) = IsInvertible y × StandsOverGroups t
 StandsOverGroups (LetArray v b) = IsOfInputs v × StandsOverGroups b
-StandsOverGroups (Map WorkGroup n loads xs b) = IsOfInputs xs × StandsInGroup true b
+StandsOverGroups (Map (Over Groups X) n loads xs b) = IsOfInputs xs × StandsInGroup true b
 StandsOverGroups _ = ⊥

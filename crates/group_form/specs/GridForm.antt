@@ -1,23 +1,23 @@
 -- Which code is printed for a map over work-groups in two dimensions: two statements over groups,
 -- the outer over rows, around phases that are nests of two local maps.
 use Rattle.std.specs.Prelude.{◌≡◌, ℕ, ◌+◌, ◌/◌, ◌%◌, ◌<◌, true, List, []}
-use Rattle.kernel_tree.specs.declared.tree.Dimension.TheVariants.{X, Y}
+use Rattle.lift_tree.specs.declared.term.Level.TheVariants.{Groups, Items}
+use Rattle.lift_tree.specs.declared.term.Dimension.TheVariants.{X, Y}
 use Rattle.kernel_tree.specs.Formula.{Formula}
-use Rattle.kernel_tree.specs.Code.{Local as LocalArray, FromGroupId, FromLocalId, ByGroupCount, ByLocalSize, Code, End}
+use Rattle.kernel_tree.specs.Code.{Local as LocalArray, Code, End}
 use Rattle.kernel_tree.specs.Launch.{Launch, item_count}
 use Rattle.barrier_placement.specs.Fencing.{Fencing}
 use Rattle.lift_ir.specs.Layouts.{result_position, IsInvertible}
-use Rattle.lift_ir.specs.Terms.{LoadSet, WorkGroup, Local, WorkGroupRows, LocalRows, LocalMemory, Term, Bound, Source, Both, Project, Reshape, LetArray, Map, Copy, push}
+use Rattle.lift_ir.specs.Terms.{LoadSet, Over, LocalMemory, Term, Bound, Source, Both, Project, Reshape, LetArray, Map, Copy, push}
 use Rattle.lift_ir.specs.Scalars.{at_index}
 use Rattle.printed_form.specs.Arguments.{marks_in, local_arrays}
 use Rattle.printed_form.specs.Counts.{Count, more, no_variables, load_count, variable_count, private_count, local_count}
 use Rattle.printed_form.specs.Marks.{Marks, laid_in, loaded_marks}
 use Rattle.printed_form.specs.Form.{IsLength, IsLoaded, argument_marks, IsWritten}
-use Rattle.printed_form.specs.MapForms.{MapForm, form_over_groups, variables_in, TurnCode}
+use Rattle.printed_form.specs.MapForms.{MapForm, form_over_groups, statement_over_groups, variables_in, TurnCode, AreTurns}
 use Rattle.group_phases.specs.Epochs.{IsPast}
 use Rattle.group_phases.specs.GridPhases.{IsGroupRow, IsGroupColumn}
 use Rattle.group_phases.specs.Grids.{Grid, places}
-use Rattle.group_phases.specs.Strides.{AreTurnsFrom, statement_of}
 use Rattle.group_form.specs.Form.{Used, used_after}
 use Rattle.group_form.specs.GridTerms.{GridForms}
 use Rattle.group_form.specs.Stages.{marks_of}
@@ -32,8 +32,8 @@ module _ {A : Type 0} (num : A → ℕ) (forms : GridForms A) (l : Launch) (ins 
   IsAlongRow item k a n env (Reshape y t) w ts r code rest =
       IsInvertible y
       × IsAlongRow item k a n env t (λ cs p. w cs (result_position num y p)) ts r code rest
-  IsAlongRow item k a n env (Map Local m loads xs b) w ts r code rest =
-      AreTurnsFrom l item (forms.columns.local m) (FromLocalId X) (ByLocalSize X) ts (num m)
+  IsAlongRow item k a n env (Map (Over Items X) m loads xs b) w ts r code rest =
+      AreTurns l item ins (forms.columns.local m) (Over Items X) ts (num m)
       (λ us j before after. (inner : Code)
       × IsLoaded l item ins us loads (at_index j (marks_in local_arrays num ins env k xs))
       (more n (variable_count xs)) before inner
@@ -68,8 +68,8 @@ module _ {A : Type 0} (num : A → ℕ) (forms : GridForms A) (l : Launch) (ins 
         → (marks : ℕ → Marks) → (body : Term A) → (to : ℕ → Marks) → (code rest : Code) → Type 0
     IsLocalNest env u len loads marks b w code rest =
         AtTurns
-        (λ item i. AreTurnsFrom l item (forms.rows.local len) (FromLocalId Y) (ByLocalSize Y)
-        (around_turn i) (num len)
+        (λ item i. AreTurns l item ins (forms.rows.local len) (Over Items Y) (around_turn i)
+        (num len)
         (λ ts r before after. (mid : Code)
         × IsLoaded l item ins ts loads (at_index r (marks i)) u.variables before mid
         × IsAlongRow item u.locals u.privates (more u.variables (load_count loads))
@@ -105,7 +105,7 @@ module _ {A : Type 0} (num : A → ℕ) (forms : GridForms A) (l : Launch) (ins 
           (mid : Code) × IsGridArgument env u v code mid
           × IsGridWritten (λ i. push (marks_of num ins env u.locals v i) (env i))
           (used_after u v) b w mid rest
-      IsGridWritten env u (Map LocalRows n loads xs b) w code rest =
+      IsGridWritten env u (Map (Over Items Y) n loads xs b) w code rest =
           (mid mid2 : Code) × IsGridArgument env u xs code mid
           × IsPast (fence (u.phases + phases_in xs)) mid mid2
           × IsLocalNest env (used_after u xs) n loads (marks_of num ins env u.locals xs) b w mid2
@@ -132,11 +132,9 @@ module _ {A : Type 0} (num : A → ℕ) (forms : GridForms A) (l : Launch) (ins 
   IsAlongGroups fence rf rows n env (Reshape y t) w code =
       IsInvertible y
       × IsAlongGroups fence rf rows n env t (λ r cs p. w r cs (result_position num y p)) code
-  IsAlongGroups fence rf rows n env (Map WorkGroup m loads xs b) w code =
+  IsAlongGroups fence rf rows n env (Map (Over Groups X) m loads xs b) w code =
       (bound : Formula) × (body : Code)
-      × (code
-      ≡ statement_of (form_over_groups (forms.columns.once m)) (FromGroupId X) (ByGroupCount X) bound
-      body)
+      × (code ≡ statement_over_groups X (forms.columns.once m) bound body)
       × IsLength l ins bound (num m)
       × IsGridTurn fence rf (form_over_groups (forms.columns.once m))
       (record { rows = rows; columns = num m }) n (λ i. env (i / num m)) loads
@@ -151,11 +149,9 @@ module _ {A : Type 0} (num : A → ℕ) (forms : GridForms A) (l : Launch) (ins 
       IsInvertible y × IsOverGrid fence env t (λ cs p. w cs (result_position num y p)) code
   IsOverGrid fence env (LetArray v b) w code =
       IsOverGrid fence (push (argument_marks l ins num env 0 v) env) b w code
-  IsOverGrid fence env (Map WorkGroupRows n loads xs b) w code =
+  IsOverGrid fence env (Map (Over Groups Y) n loads xs b) w code =
       (bound : Formula) × (body mid : Code)
-      × (code
-      ≡ statement_of (form_over_groups (forms.rows.once n)) (FromGroupId Y) (ByGroupCount Y) bound
-      body)
+      × (code ≡ statement_over_groups Y (forms.rows.once n) bound body)
       × IsLength l ins bound (num n)
       × ((item r : ℕ) → item < item_count l → r < num n → IsGroupRow l item r
       → IsLoaded l item ins (variables_in (form_over_groups (forms.rows.once n)) [] r) loads

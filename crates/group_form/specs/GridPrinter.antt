@@ -4,53 +4,33 @@ use Rattle.size_arith.specs.declared.poly.Monomial.{Monomial}
 use Rattle.lift_tree.specs.Tree.{Tree}
 use Rattle.lift_tree.specs.Typing.{Declared}
 use Rattle.lift_tree.specs.Annotations.{Annotation, type_in}
-use Rattle.kernel_tree.specs.declared.tree.Dimension.TheVariants.{X, Y}
-use Rattle.kernel_tree.specs.Formula.{Formula, LoopVariable, Number, Id, GlobalId, GroupId, LocalId}
-use Rattle.kernel_tree.specs.Code.{Output, Local as LocalArray, FromZero, FromGlobalId, FromGroupId, FromLocalId, ByGroupCount, ByLocalSize, Start, Stride, Code, End, Loops, Guards, Kernel}
+use Rattle.lift_tree.specs.declared.term.Level.TheVariants.{Groups, Items}
+use Rattle.lift_tree.specs.declared.term.Dimension.TheVariants.{X, Y}
+use Rattle.kernel_tree.specs.Formula.{Formula}
+use Rattle.kernel_tree.specs.Code.{Output, Local as LocalArray, Code, End, Kernel}
 use Rattle.kernel_tree.specs.Launch.{Launch}
 use Rattle.barrier_placement.specs.Fencing.{Fencing}
 use Rattle.lift_ir.specs.Types.{Shape, measured, IsPlaced}
-use Rattle.lift_ir.specs.Terms.{LoadSet, Term, Both, Project, Reshape, LetArray, Map, Copy, push, HasType, no_type}
+use Rattle.lift_ir.specs.Terms.{Over, LoadSet, Term, Both, Project, Reshape, LetArray, Map, Copy, push, HasType, no_type}
 use Rattle.lift_ir.specs.AtLaunch.{shape_of}
 use Rattle.lift_ir.specs.Fours.{KeepsFours}
 use Rattle.lift_ir.specs.Loads.{none, LoadsSuffice}
 use Rattle.printed_form.specs.Arguments.{local_arrays, private_arrays, argument_view}
 use Rattle.printed_form.specs.Counts.{Count, more, no_variables, load_count, variable_count, private_count, local_count}
-use Rattle.printed_form.specs.MapForms.{MapForm, Looped, Guarded, Alone, form_over_groups}
+use Rattle.printed_form.specs.MapForms.{form_over_groups, statement_over_groups}
 use Rattle.printed_form.specs.Means.{IsSpelled}
 use Rattle.printed_form.specs.Programs.{input_shape, first_buffer, declared_kernel, lowered_root}
 use Rattle.printed_form.specs.Printer.{print_loaded, print_written, no_view, input_views, input_marks}
 use Rattle.printed_form.specs.Views.{View, loaded_view, view_at, rewritten_view, placed_view, laid_view}
 use Rattle.printed_form.specs.Whole.{no_marks, output_marks}
 use Rattle.group_phases.specs.Epochs.{fenced}
-use Rattle.group_phases.specs.Strides.{statement_of}
 use Rattle.group_form.specs.Form.{Used, used_after}
 use Rattle.group_form.specs.GridChosen.{grid_forms_of}
 use Rattle.group_form.specs.GridForm.{IsOverGrid}
 use Rattle.group_form.specs.GridTerms.{GridForms, StandsOverGrid}
 use Rattle.group_form.specs.GridTheorem.{MakeGridTurns}
-use Rattle.group_form.specs.Printer.{depth_in}
+use Rattle.group_form.specs.Printer.{depth_in, turn_formula, print_turns}
 use Rattle.group_form.specs.Uses.{phases_in}
-
--- what a loop begins with
-abbrev pub start_formula : Start → Formula
-start_formula FromZero = Number 0
-start_formula (FromGlobalId d) = Id d GlobalId
-start_formula (FromGroupId d) = Id d GroupId
-start_formula (FromLocalId d) = Id d LocalId
-
--- what stands for the turn of a map within so many loops
-abbrev pub turn_from : MapForm → Start → (depth : ℕ) → Formula
-turn_from Looped s depth = LoopVariable depth
-turn_from Guarded s depth = start_formula s
-turn_from Alone s depth = start_formula s
-
--- a map's statement in a form, where this prints a turn up to what follows it
-abbrev pub print_turns_from : MapForm → Start → Stride → (bound : Formula) → (turn : Code → Code)
-    → (rest : Code) → Code
-print_turns_from Looped s c b turn rest = Loops s b c (turn End) rest
-print_turns_from Guarded s c b turn rest = Guards s b (turn End) rest
-print_turns_from Alone s c b turn rest = turn rest
 
 -- the maps have these forms, and this stands before each phase
 module _ {A : Type 0} (spell : A → Formula) (forms : GridForms A) (ins : ℕ → View)
@@ -70,8 +50,8 @@ module _ {A : Type 0} (spell : A → Formula) (forms : GridForms A) (ins : ℕ �
   print_along_row depth env k a n (Reshape y t) w rest =
       print_along_row depth env k a n t (rewritten_view spell y w) rest
   print_along_row depth env k a n (Map kind m loads xs b) w rest =
-      print_turns_from (forms.columns.local m) (FromLocalId X) (ByLocalSize X) (spell m)
-      (print_place (turn_from (forms.columns.local m) (FromLocalId X) depth)
+      print_turns (forms.columns.local m) (Over Items X) (spell m)
+      (print_place (turn_formula (forms.columns.local m) (Over Items X) depth)
       (depth_in (forms.columns.local m) depth) env (a + private_count xs)
       (more n (variable_count xs)) loads (argument_view local_arrays spell ins env k xs) b w) rest
   print_along_row depth env k a n _ w rest = rest
@@ -88,8 +68,8 @@ module _ {A : Type 0} (spell : A → Formula) (forms : GridForms A) (ins : ℕ �
   abbrev pub print_local_nest : (depth : ℕ) → (ℕ → View) → Used → A → LoadSet → (array : View)
       → (body : Term A) → (to : View) → (rest : Code) → Code
   print_local_nest depth env u n loads x b w rest =
-      print_turns_from (forms.rows.local n) (FromLocalId Y) (ByLocalSize Y) (spell n)
-      (print_row (turn_from (forms.rows.local n) (FromLocalId Y) depth)
+      print_turns (forms.rows.local n) (Over Items Y) (spell n)
+      (print_row (turn_formula (forms.rows.local n) (Over Items Y) depth)
       (depth_in (forms.rows.local n) depth) env u loads x b w) rest
 
   abbrev mutual
@@ -140,8 +120,8 @@ module _ {A : Type 0} (spell : A → Formula) (forms : GridForms A) (ins : ℕ �
       print_along_groups depth env n t (rewritten_view spell l w)
   print_along_groups depth env n (Map kind m loads xs b) w =
       let form = form_over_groups (forms.columns.once m) in
-      let turn = turn_from form (FromGroupId X) depth in
-      statement_of form (FromGroupId X) (ByGroupCount X) (spell m)
+      let turn = turn_formula form (Over Groups X) depth in
+      statement_over_groups X (forms.columns.once m) (spell m)
       (print_grid_turn (depth_in form depth) env n loads
       (view_at turn (argument_view private_arrays spell ins env 0 xs)) b (view_at turn w))
   print_along_groups depth env n _ w = End
@@ -153,13 +133,13 @@ module _ {A : Type 0} (spell : A → Formula) (forms : GridForms A) (ins : ℕ �
       print_grid (push (argument_view private_arrays spell ins env 0 v) env) b w
   print_grid env (Map kind n loads xs b) w =
       let form = form_over_groups (forms.rows.once n) in
-      let x = view_at (turn_from form (FromGroupId Y) 0)
+      let x = view_at (turn_formula form (Over Groups Y) 0)
       (argument_view private_arrays spell ins env 0 xs) in
-      statement_of form (FromGroupId Y) (ByGroupCount Y) (spell n)
+      statement_over_groups Y (forms.rows.once n) (spell n)
       (print_loaded loads x no_variables
       (print_along_groups (depth_in form 0) (push (loaded_view loads x no_variables) env)
       (load_count loads) b
-      (view_at (turn_from form (FromGroupId Y) 0) w)))
+      (view_at (turn_formula form (Over Groups Y) 0) w)))
   print_grid env _ w = End
 
 -- the code of a map over rows of work-groups, where input v's arrays

@@ -1,10 +1,13 @@
 -- Maps over work-groups and their items in two dimensions: which terms can stand in them, and their
 -- phases' uses of local arrays.
 use Rattle.std.specs.Prelude.{ℕ, ◌+◌, Bool, true, false, List, [], ◌∷◌, ◌++◌}
+use Rattle.lift_tree.specs.declared.term.Level.TheVariants.{Groups, Items}
+use Rattle.lift_tree.specs.declared.term.Dimension.{Dimension}
+use Rattle.lift_tree.specs.declared.term.Dimension.TheVariants.{X, Y}
 use Rattle.barrier_placement.specs.declared.touches.Touch.{Touch}
 use Rattle.lift_ir.specs.Layouts.{IsInvertible}
 use Rattle.lift_ir.specs.Forms.{Stands}
-use Rattle.lift_ir.specs.Terms.{WorkGroup, Local, WorkGroupRows, LocalRows, LocalMemory, Term, Bound, Source, Both, Project, Reshape, LetArray, Map, Copy, push}
+use Rattle.lift_ir.specs.Terms.{Over, LocalMemory, Term, Bound, Source, Both, Project, Reshape, LetArray, Map, Copy, push}
 use Rattle.printed_form.specs.Counts.{local_count}
 use Rattle.printed_form.specs.MapForms.{MapForms}
 use Rattle.group_form.specs.Forms.{IsOfInputs}
@@ -14,7 +17,7 @@ use Rattle.group_form.specs.Uses.{Use, Destination, Locals, Outputs, loop_uses, 
 -- a map along a row of a group, seen through layouts, whose argument copies nothing
 abbrev pub StandsAlongRow : {A : Type 0} → Term A → Type 0
 StandsAlongRow (Reshape y t) = IsInvertible y × StandsAlongRow t
-StandsAlongRow (Map Local n loads xs b) = IsOfInputs xs × Stands true b
+StandsAlongRow (Map (Over Items X) n loads xs b) = IsOfInputs xs × Stands true b
 StandsAlongRow _ = ⊥
 
 -- for the items of a group together, outside local maps: a local map over rows around one along a
@@ -23,7 +26,7 @@ StandsAlongRow _ = ⊥
 abbrev pub StandsInGrid : {A : Type 0} → (written : Bool) → Term A → Type 0
 StandsInGrid true (Reshape y t) = IsInvertible y × StandsInGrid true t
 StandsInGrid true (LetArray v b) = StandsInGrid false v × StandsInGrid true b
-StandsInGrid true (Map LocalRows n loads xs b) = StandsInGrid false xs × StandsAlongRow b
+StandsInGrid true (Map (Over Items Y) n loads xs b) = StandsInGrid false xs × StandsAlongRow b
 StandsInGrid true _ = ⊥
 StandsInGrid false (Bound v) = Unit {0}
 StandsInGrid false (Source a) = Unit {0}
@@ -37,20 +40,25 @@ StandsInGrid false _ = ⊥
 -- a map over the groups of a row, seen through layouts
 abbrev pub StandsAlongGroups : {A : Type 0} → Term A → Type 0
 StandsAlongGroups (Reshape y t) = IsInvertible y × StandsAlongGroups t
-StandsAlongGroups (Map WorkGroup n loads xs b) = IsOfInputs xs × StandsInGrid true b
+StandsAlongGroups (Map (Over Groups X) n loads xs b) = IsOfInputs xs × StandsInGrid true b
 StandsAlongGroups _ = ⊥
 
 -- a map over rows of groups, through layouts and lets of inputs
 abbrev pub StandsOverGrid : {A : Type 0} → Term A → Type 0
 StandsOverGrid (Reshape y t) = IsInvertible y × StandsOverGrid t
 StandsOverGrid (LetArray v b) = IsOfInputs v × StandsOverGrid b
-StandsOverGrid (Map WorkGroupRows n loads xs b) = IsOfInputs xs × StandsAlongGroups b
+StandsOverGrid (Map (Over Groups Y) n loads xs b) = IsOfInputs xs × StandsAlongGroups b
 StandsOverGrid _ = ⊥
 
 -- the forms of the maps over rows, and of those along them
 pub record GridForms (A : Type 0) : Type 0 where
   pub rows : MapForms A
   pub columns : MapForms A
+
+-- of the maps along this dimension
+abbrev pub forms_along : {A : Type 0} → GridForms A → Dimension → MapForms A
+forms_along forms X = forms.columns
+forms_along forms Y = forms.rows
 
 -- Uses. None in two dimensions is aligned
 

@@ -4,13 +4,14 @@ use Rattle.size_arith.specs.declared.poly.Monomial.{Monomial}
 use Rattle.lift_tree.specs.Tree.{Tree}
 use Rattle.lift_tree.specs.Typing.{Declared}
 use Rattle.lift_tree.specs.Annotations.{Annotation, type_in}
-use Rattle.kernel_tree.specs.declared.tree.Dimension.TheVariants.{X, Y}
+use Rattle.lift_tree.specs.declared.term.Level.TheVariants.{Groups, Items}
+use Rattle.lift_tree.specs.declared.term.Dimension.TheVariants.{X}
 use Rattle.kernel_tree.specs.Formula.{Formula, LoopVariable, Number, Id, GlobalId, GroupId, LocalId}
-use Rattle.kernel_tree.specs.Code.{Output, Local as LocalArray, Code, End, Loops, Guards, Kernel}
+use Rattle.kernel_tree.specs.Code.{Output, Local as LocalArray, Start, FromZero, FromGlobalId, FromGroupId, FromLocalId, Stride, Code, End, Loops, Guards, Kernel}
 use Rattle.kernel_tree.specs.Launch.{Launch}
 use Rattle.barrier_placement.specs.Fencing.{Fencing}
 use Rattle.lift_ir.specs.Types.{Shape, measured, IsPlaced}
-use Rattle.lift_ir.specs.Terms.{Kind, Global, WorkGroup, Local, Sequential, GlobalRows, WorkGroupRows, LocalRows, LoadSet, Term, Both, Project, Reshape, LetArray, Map, Copy, push, HasType, no_type}
+use Rattle.lift_ir.specs.Terms.{Kind, Over, LoadSet, Term, Both, Project, Reshape, LetArray, Map, Copy, push, HasType, no_type}
 use Rattle.lift_ir.specs.AtLaunch.{shape_of}
 use Rattle.lift_ir.specs.Fours.{KeepsFours}
 use Rattle.lift_ir.specs.Loads.{none, LoadsSuffice}
@@ -29,21 +30,18 @@ use Rattle.group_form.specs.Form.{Used, used_after, IsOverGroups}
 use Rattle.group_form.specs.Forms.{StandsOverGroups}
 use Rattle.group_form.specs.Uses.{phases_in}
 
--- the id that an item's turn of a map of a kind is, where it takes no loop
-abbrev pub id_of : Kind → Formula
-id_of Global = Id X GlobalId
-id_of WorkGroup = Id X GroupId
-id_of Local = Id X LocalId
-id_of Sequential = Number 0
-id_of GlobalRows = Id Y GlobalId
-id_of WorkGroupRows = Id Y GroupId
-id_of LocalRows = Id Y LocalId
+-- what a turn is that takes no loop, by where it begins
+abbrev pub start_formula : Start → Formula
+start_formula FromZero = Number 0
+start_formula (FromGlobalId d) = Id d GlobalId
+start_formula (FromGroupId d) = Id d GroupId
+start_formula (FromLocalId d) = Id d LocalId
 
 -- what stands for the turn of a map within so many loops
-abbrev pub turn_formula : MapForm → Kind → (depth : ℕ) → Formula
-turn_formula Looped k depth = LoopVariable depth
-turn_formula Guarded k depth = id_of k
-turn_formula Alone k depth = id_of k
+abbrev pub turn_from : MapForm → Start → (depth : ℕ) → Formula
+turn_from Looped s depth = LoopVariable depth
+turn_from Guarded s depth = start_formula s
+turn_from Alone s depth = start_formula s
 
 -- and in how many loops its body stands
 abbrev pub depth_in : MapForm → ℕ → ℕ
@@ -52,11 +50,24 @@ depth_in Guarded depth = depth
 depth_in Alone depth = depth
 
 -- a map's statement in a form, where this prints a turn up to what follows it
+abbrev pub print_turns_from : MapForm → Start → Stride → (bound : Formula) → (turn : Code → Code)
+    → (rest : Code) → Code
+print_turns_from Looped s c b turn rest = Loops s b c (turn End) rest
+print_turns_from Guarded s c b turn rest = Guards s b (turn End) rest
+print_turns_from Alone s c b turn rest = turn rest
+
+-- the id that an item's turn of a map of a kind is, where it takes no loop
+abbrev pub id_of : Kind → Formula
+id_of k = start_formula (start_of k)
+
+-- what stands for the turn of a map of a kind
+abbrev pub turn_formula : MapForm → Kind → (depth : ℕ) → Formula
+turn_formula form k depth = turn_from form (start_of k) depth
+
+-- and its statement
 abbrev pub print_turns : MapForm → Kind → (bound : Formula) → (turn : Code → Code) → (rest : Code)
     → Code
-print_turns Looped k b turn rest = Loops (start_of k) b (stride_of k) (turn End) rest
-print_turns Guarded k b turn rest = Guards (start_of k) b (turn End) rest
-print_turns Alone k b turn rest = turn rest
+print_turns form k b turn rest = print_turns_from form (start_of k) (stride_of k) b turn rest
 
 -- the maps have these forms, and this stands before each phase
 module _ {A : Type 0} (spell : A → Formula) (forms : MapForms A) (ins : ℕ → View)
@@ -65,7 +76,7 @@ module _ {A : Type 0} (spell : A → Formula) (forms : MapForms A) (ins : ℕ �
   abbrev pub print_local_turn : (depth : ℕ) → (ℕ → View) → Used → A → LoadSet → (array : View)
       → (body : Term A) → (to : View) → (rest : Code) → Code
   print_local_turn depth env u n loads x b w rest =
-      let turn = turn_formula (forms.local n) Local depth in
+      let turn = turn_formula (forms.local n) (Over Items X) depth in
       print_loaded loads (view_at turn x) u.variables
       (print_written spell ins (depth_in (forms.local n) depth)
       (push (loaded_view loads (view_at turn x) u.variables) env) u.privates
@@ -75,7 +86,7 @@ module _ {A : Type 0} (spell : A → Formula) (forms : MapForms A) (ins : ℕ �
   abbrev pub print_local_map : (depth : ℕ) → (ℕ → View) → Used → A → LoadSet → (array : View)
       → (body : Term A) → (to : View) → (rest : Code) → Code
   print_local_map depth env u n loads x b w rest =
-      print_turns (forms.local n) Local (spell n)
+      print_turns (forms.local n) (Over Items X) (spell n)
       (print_local_turn depth env u n loads x b w) rest
 
   abbrev mutual
@@ -126,8 +137,8 @@ module _ {A : Type 0} (spell : A → Formula) (forms : MapForms A) (ins : ℕ �
       print_groups (push (argument_view private_arrays spell ins env 0 v) env) b w
   print_groups env (Map kind n loads xs b) w =
       let form = form_over_groups (forms.once n) in
-      let turn = turn_formula form WorkGroup 0 in
-      statement_over_groups (forms.once n) (spell n)
+      let turn = turn_formula form (Over Groups X) 0 in
+      statement_over_groups X (forms.once n) (spell n)
       (print_group_turn (depth_in form 0) env loads
       (view_at turn (argument_view private_arrays spell ins env 0 xs)) b (view_at turn w))
   print_groups env _ w = End

@@ -4,6 +4,8 @@ use Rattle.std.proofs.Common.{◌≡◌, ℕ, ◌+◌, ◌*◌, ◌/◌, ◌%◌
 use Rattle.std.proofs.lemmas.Bool.{cases_lt}
 use Rattle.std.proofs.lemmas.Nat.{div-mul-add}
 use Rattle.std.proofs.Math.Nat.{mod-lt, mul-div_cancel}
+use Rattle.lift_tree.specs.declared.term.Level.TheVariants.{Items}
+use Rattle.lift_tree.specs.declared.term.Dimension.TheVariants as dimension
 use Rattle.kernel_tree.specs.declared.tree.Dimension.TheVariants.{X}
 use Rattle.kernel_tree.specs.Code.{Private, FromLocalId, ByLocalSize, Code, End, then_rest}
 use Rattle.kernel_tree.specs.Launch.{ids_of}
@@ -12,7 +14,7 @@ use Rattle.kernel_tree.specs.Rounds.{Loop, Counts}
 use Rattle.kernel_tree.specs.Strides.{turns_of}
 use Rattle.kernel_tree.proofs.Stride.{turn_below, turn_past}
 use Rattle.lift_ir.specs.Types.{Ty, ArrayOf}
-use Rattle.lift_ir.specs.Terms.{LoadSet, Local, Term, push, HasType, LoadsScalars}
+use Rattle.lift_ir.specs.Terms.{LoadSet, Over, Term, push, HasType, LoadsScalars}
 use Rattle.lift_ir.specs.Scalars.{Scalars, at_index, mapped, scalars_of}
 use Rattle.printed_form.specs.Marks.{Marks, loaded_marks}
 use Rattle.printed_form.specs.Counts.{Count, more, load_count, variable_count, private_count}
@@ -101,7 +103,7 @@ module _ (st : Setting) {A : Type 0} (num : A → ℕ) (ins : ℕ → Marks) (sr
 
       -- by a loop from the local id by the local size
       module _ (begins : (ids_of st.device.launch st.item).x.local_id ≡ id) (small : len + st.device.launch.local.0 ≤ 2 ^ 32)
-          (h : IsLoop st.device.launch st.item ins Local len
+          (h : IsLoop st.device.launch st.item ins (Over Items dimension.X) len
           (λ i body. (inner : Code) × IsLoaded st.device.launch st.item ins (ts ++ i ∷ []) loads (at_index i e) x.count body inner
           × IsWritten st.device.launch st.item ins num (ts ++ i ∷ []) (push (loaded_marks loads (at_index i e) x.count) env) x.arrays (more x.count (load_count loads)) b (at_index i w) inner End)
           code rest) where
@@ -173,7 +175,7 @@ module _ (st : Setting) {A : Type 0} (num : A → ℕ) (ins : ℕ → Marks) (sr
           × IsWritten st.device.launch st.item ins num us (push (loaded_marks loads (at_index i e) x.count) env) x.arrays (more x.count (load_count loads)) b (at_index i w) inner after
 
       module _ (begins : (ids_of st.device.launch st.item).x.local_id ≡ id) (small : len + st.device.launch.local.0 ≤ 2 ^ 32) where
-        guard_run : len ≤ st.device.launch.local.0 → AreTurns st.device.launch st.item ins Guarded Local ts len IsRowCode code rest → RunsRows
+        guard_run : len ≤ st.device.launch.local.0 → AreTurns st.device.launch st.item ins Guarded (Over Items dimension.X) ts len IsRowCode code rest → RunsRows
         guard_run short h =
             let few = few_turns short in
             let at_most_one : count < 2 = omega arith in
@@ -190,7 +192,7 @@ module _ (st : Setting) {A : Type 0} (num : A → ℕ) (ins : ℕ → Marks) (sr
               written_on rest st.device.launch st.item ins num ts (push (loaded_marks loads (at_index id e) x.count) env) x.arrays (more x.count (load_count loads)) b (at_index id w) k.0 End k.2,
             ))
 
-        pub form_run : (form : MapForm) → MakesTurns form len st.device.launch → AreTurns st.device.launch st.item ins form Local ts len IsRowCode code rest → RunsRows
+        pub form_run : (form : MapForm) → MakesTurns form len st.device.launch → AreTurns st.device.launch st.item ins form (Over Items dimension.X) ts len IsRowCode code rest → RunsRows
         form_run Looped fits h = local_run begins small h
         form_run Guarded fits h = guard_run fits h
         form_run Alone fits h = alone_run fits (h id (let lt = mod-lt st.item positive in omega arith) (sym begins))

@@ -3,6 +3,8 @@
 use Rattle.std.proofs.Common.{◌≡◌, ℕ, zero, suc, ◌+◌, ◌*◌, ◌%◌, ◌<◌, ◌≤◌, true, List, ◌∷◌, All, refl, sym, ap, ◌∙◌, subst, inl, ⊎_elim, arith}
 use Rattle.std.proofs.lemmas.Bool.{cases_lt}
 use Rattle.std.proofs.Math.Nat.{mod-lt, mul-le-mul_right}
+use Rattle.lift_tree.specs.declared.term.Level.TheVariants.{Groups}
+use Rattle.lift_tree.specs.declared.term.Dimension.TheVariants.{X}
 use Rattle.kernel_tree.specs.Formula.{Vars}
 use Rattle.kernel_tree.specs.Code.{Input, Output, Local, Private, Code, Kernel}
 use Rattle.kernel_tree.specs.Launch.{Launch, Cells, group_of, groups_across, item_count}
@@ -18,7 +20,7 @@ use Rattle.barrier_placement.specs.Fencing.{Fencing}
 use Rattle.barrier_placement.specs.Laws.{NeededBarriersSeparate}
 use Rattle.barrier_placement.specs.Needed.{Needed}
 use Rattle.barrier_placement.specs.Separates.{Separates}
-use Rattle.lift_ir.specs.Terms.{WorkGroup}
+use Rattle.lift_ir.specs.Terms.{Over}
 use Rattle.printed_form.specs.Headline.{EveryRunKeeps}
 use Rattle.printed_form.specs.Marks.{Mark, Nowhere, Register, Lane, Spot, loaded_marks}
 use Rattle.printed_form.specs.Counts.{more, no_variables, load_count, variable_count, private_count}
@@ -78,7 +80,7 @@ module _ {A : Type 0} (num : A → ℕ) (k : Kernel) (l : Launch) (c : Cells) (o
   in_turns t j jl tl = turn_below p.turns (groups_across l) (group_of l j) t (subst (λ z. group_of l j < z) (flat_groups l h.room.flat) (group_in_launch l h.room.whole j jl)) tl
 
   -- the turn is one that the item takes of the map over groups
-  own_turn : (t j : ℕ) → j < item_count l → IsTurnOf l j WorkGroup (turn_of l t j)
+  own_turn : (t j : ℕ) → j < item_count l → IsTurnOf l j (Over Groups X) (turn_of l t j)
   own_turn t j jl =
       (t, ap (λ g. g + t * groups_across l) (flat_group l h.room.flat h.room.whole j ∙ sym (flat_group_id l h.room.flat j (subst (λ z. j < z) (flat_items l h.room.flat) jl))))
 
@@ -143,7 +145,7 @@ module _ {A : Type 0} (num : A → ℕ) (k : Kernel) (l : Launch) (c : Cells) (o
   given_at t j o m vars Nowhere v target ready g = absurd g
 
   -- the loads of the turn's scalars
-  loads_do : (t j : ℕ) → t < loop_turns l p.turns (group_of l j) → j < item_count l → (fs : List Frame) → loop_variables fs ≡ variables_at num l p (turn_of l t j) → (code mid : Code) → ((item i : ℕ) → item < item_count l → i < p.turns → IsTurnOf l item WorkGroup i → IsLoaded l item p.ins (variables_at num l p i) p.top.loads (p.top.marks i) no_variables code mid) → (vars : Vars) → Fits p.variables vars
+  loads_do : (t j : ℕ) → t < loop_turns l p.turns (group_of l j) → j < item_count l → (fs : List Frame) → loop_variables fs ≡ variables_at num l p (turn_of l t j) → (code mid : Code) → ((item i : ℕ) → item < item_count l → i < p.turns → IsTurnOf l item (Over Groups X) i → IsLoaded l item p.ins (variables_at num l p i) p.top.loads (p.top.marks i) no_variables code mid) → (vars : Vars) → Fits p.variables vars
       → Does t 0 j (λ b. ⊥) fs code vars mid
   loads_do t j tl jl fs ts code mid is vars long o m ready =
       let i = turn_of l t j in

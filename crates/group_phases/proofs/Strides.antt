@@ -14,9 +14,9 @@ use Rattle.kernel_tree.specs.Strides.{turns_of}
 use Rattle.kernel_tree.proofs.Stride.{turn_below, turn_past}
 use Rattle.lift_ir.specs.Terms.{Kind}
 use Rattle.printed_form.specs.Form.{start_of, stride_of}
-use Rattle.printed_form.specs.MapForms.{MapForm, Looped, Guarded, Alone, TurnCode, AreTurns, variables_in}
+use Rattle.printed_form.specs.MapForms.{MapForm, Looped, Guarded, Alone, TurnCode, AreTurns, variables_in, AreTurnsFrom, statement_of}
 use Rattle.printed_form.specs.Marks.{Marks}
-use Rattle.group_phases.specs.Strides.{AreTurnsFrom, MakesTurnsBy, statement_of, frames_in, statement_form}
+use Rattle.group_phases.specs.Strides.{MakesTurnsBy, frames_in, statement_form}
 use Rattle.group_phases.specs.TurnForms.{Form, TakesTurns, Tests, loop_form, test_form}
 use Rattle.group_phases.proofs.TurnForms.{leads_here, loop_takes, test_takes, guard_tests}
 

@@ -6,6 +6,7 @@ use Rattle.kernel_tree.specs.Formula.{Formula, bound_value}
 use Rattle.kernel_tree.specs.Code.{FromGroupId, ByGroupCount, Code, Kernel}
 use Rattle.kernel_tree.specs.Launch.{Launch, Cells, IsWhole, groups_across, groups_down, group_of, item_count}
 use Rattle.kernel_tree.specs.Device.{Cell, length_in, row}
+use Rattle.printed_form.specs.MapForms.{statement_of}
 use Rattle.barrier_placement.specs.Conflicts as placed
 use Rattle.barrier_placement.specs.Conflicts.{space_of}
 use Rattle.barrier_placement.specs.Fencing.{Fencing}
@@ -25,7 +26,7 @@ use Rattle.group_phases.specs.Groups.{GroupOutputs, declared}
 use Rattle.group_phases.specs.Outcome.{BarriersServeAll}
 use Rattle.group_phases.specs.Phased.{ArePhases}
 use Rattle.group_phases.specs.Phases.{cell_of}
-use Rattle.group_phases.specs.Strides.{MakesTurnsBy, statement_of}
+use Rattle.group_phases.specs.Strides.{MakesTurnsBy}
 use Rattle.group_phases.specs.Work.{IsOwnLocal}
 
 -- a kernel that is a statement over rows of groups around the row's loads and a statement over the

@@ -8,11 +8,10 @@ use Rattle.lift_ir.specs.Terms.{LoadSet, Skip, Term, push}
 use Rattle.lift_ir.specs.Scalars.{Scalars, at_index, scalars_of}
 use Rattle.printed_form.specs.Counts.{Count, more, load_count}
 use Rattle.printed_form.specs.Form.{IsLoaded, IsWritten}
-use Rattle.printed_form.specs.MapForms.{MapForm, Alone, TurnCode}
+use Rattle.printed_form.specs.MapForms.{MapForm, Alone, TurnCode, AreTurnsFrom}
 use Rattle.printed_form.specs.Marks.{Marks, loaded_marks}
 use Rattle.printed_form.specs.Runs.{Setting, Targets}
 use Rattle.group_phases.specs.Grids.{Grid, Walk, one_row, places_taken, place_taken}
-use Rattle.group_phases.specs.Strides.{AreTurnsFrom}
 
 -- what there is of a nest of two maps but for its launch: their forms, how many rows and places,
 -- the scalars that are loaded of a row and of a place, and the body. Variables from `variables` on

@@ -1,6 +1,7 @@
 -- The body of a map over work-groups as it is printed: phases one after
 -- another, whatever stands between them.
 use Rattle.std.specs.Prelude.{◌≡◌, ℕ, ◌<◌, Bool, zero, suc, List, [], Some, map, ◌⊎◌}
+use Rattle.lift_tree.specs.declared.term.Dimension.TheVariants.{X}
 use Rattle.kernel_tree.specs.Formula.{Formula, bound_value, Vars}
 use Rattle.kernel_tree.specs.Code.{Code, End, Kernel}
 use Rattle.kernel_tree.specs.Launch.{Launch, Cells, IsWhole, group_of, item_count}
@@ -31,7 +32,7 @@ pub record IsGroupKernel (k : Kernel) (l : Launch) (once : Bool) (len n : ℕ) (
     (IsPhase : ℕ → Code → Code → Type 0) : Type 0 where
   pub bound : Formula
   pub body : Code
-  pub code : k.code ≡ statement_over_groups once bound body
+  pub code : k.code ≡ statement_over_groups X once bound body
   pub bound_is : bound_value l.sizes bound ≡ Some len
   pub phases : ArePhases fence IsPhase 0 n body
 

@@ -1,6 +1,8 @@
 -- The phases of a map over work-groups, each a map over the items of a group, with what stands for
 -- its values at every turn.
 use Rattle.std.specs.Prelude.{◌≡◌, ℕ, zero, suc, ◌+◌, ◌*◌, ◌%◌, ◌<◌, Bool, List, [], ◌∷◌, None}
+use Rattle.lift_tree.specs.declared.term.Level.TheVariants.{Groups, Items}
+use Rattle.lift_tree.specs.declared.term.Dimension.TheVariants.{X}
 use Rattle.kernel_tree.specs.Formula.{Vars, word, vector}
 use Rattle.kernel_tree.specs.Code.{Code, Kernel}
 use Rattle.kernel_tree.specs.Launch.{Launch, Cells, item_count, group_of, groups_across}
@@ -8,7 +10,7 @@ use Rattle.kernel_tree.specs.Device.{Cell, cell_at, length_in}
 use Rattle.kernel_tree.specs.Strides.{turns_of}
 use Rattle.barrier_placement.specs.declared.touches.Touch.{Touch}
 use Rattle.lift_ir.specs.Types.{Ty, IsPosition}
-use Rattle.lift_ir.specs.Terms.{LoadSet, WorkGroup, Local, Term, push}
+use Rattle.lift_ir.specs.Terms.{LoadSet, Over, Term, push}
 use Rattle.lift_ir.specs.Scalars.{Scalars, at_index, mapped, scalars_of}
 use Rattle.printed_form.specs.Marks.{Mark, Nowhere, Register, Lane, Spot, Marks, loaded_marks}
 use Rattle.printed_form.specs.Counts.{Count, more, no_variables, load_count, private_count}
@@ -142,8 +144,8 @@ module _ {A : Type 0} (num : A → ℕ) (l : Launch) (p : PhaseList A) where
   -- the map of phase q in its form, as each item runs it at its group's turns
   abbrev pub IsPhaseMap : (q : ℕ) → Code → Code → Type 0
   IsPhaseMap q code rest =
-      (item i : ℕ) → item < item_count l → i < p.turns → IsTurnOf l item WorkGroup i
-      → AreTurns l item p.ins (p.phase q).form Local (variables_at i) (p.phase q).len
+      (item i : ℕ) → item < item_count l → i < p.turns → IsTurnOf l item (Over Groups X) i
+      → AreTurns l item p.ins (p.phase q).form (Over Items X) (variables_at i) (p.phase q).len
       (λ ts j body last. (inner : Code)
       × IsLoaded l item p.ins ts (p.phase q).loads (at_index j (p.place i q).marks)
       (p.phase q).variables body inner
@@ -161,7 +163,7 @@ module _ {A : Type 0} (num : A → ℕ) (l : Launch) (p : PhaseList A) where
   IsPhase zero code rest =
       (mid : Code)
       ×
-      ((item i : ℕ) → item < item_count l → i < p.turns → IsTurnOf l item WorkGroup i
+      ((item i : ℕ) → item < item_count l → i < p.turns → IsTurnOf l item (Over Groups X) i
       → IsLoaded l item p.ins (variables_at i) p.top.loads (p.top.marks i) no_variables code mid)
       × IsPhaseMap 0 mid rest
   IsPhase (suc q) code rest = IsPhaseMap (suc q) code rest

@@ -1,42 +1,21 @@
 -- The turns of a map from any start by any stride, in whatever form: what a kind of map says in one
 -- dimension, for both.
-use Rattle.std.specs.Prelude.{◌≡◌, ℕ, ◌+◌, ◌<◌, ◌≤◌, ◌^◌, List, [], ◌∷◌, ◌++◌, Some}
+use Rattle.std.specs.Prelude.{◌≡◌, ℕ, ◌+◌, ◌<◌, ◌≤◌, ◌^◌, List, ◌∷◌, Some}
 use Rattle.kernel_tree.specs.Formula.{Formula, bound_value}
-use Rattle.kernel_tree.specs.Code.{Start, Stride, start_value, stride_value, Code, End, Loops, Guards}
-use Rattle.kernel_tree.specs.Launch.{Launch, ids_of}
+use Rattle.kernel_tree.specs.Code.{Start, Stride, start_value, stride_value, Code, End}
+use Rattle.kernel_tree.specs.Launch.{ids_of}
 use Rattle.kernel_tree.specs.Item.{Frame}
 use Rattle.kernel_tree.specs.Device.{Device}
 use Rattle.kernel_tree.specs.Rounds.{Loop, frame_of}
 use Rattle.kernel_tree.specs.Strides.{turns_of}
-use Rattle.printed_form.specs.Form.{IsTurn}
-use Rattle.printed_form.specs.MapForms.{MapForm, Looped, Guarded, Alone, TurnCode}
+use Rattle.printed_form.specs.MapForms.{MapForm, Looped, Guarded, Alone, statement_of}
 use Rattle.group_phases.specs.TurnForms.{Form, TakesTurns}
-
--- a map over n in a form, each of whose turns that the item takes is printed so
-abbrev pub AreTurnsFrom : Launch → (item : ℕ) → MapForm → Start → Stride → (around : List ℕ) → ℕ
-    → TurnCode → (code rest : Code) → Type 0
-AreTurnsFrom l item Looped s c ts n B code rest =
-    (b : Formula) × (body : Code) × (code ≡ Loops s b c body rest)
-    × (bound_value l.sizes b ≡ Some n)
-    × ((i : ℕ) → i < n → IsTurn l item s c i → B (ts ++ i ∷ []) i body End)
-AreTurnsFrom l item Guarded s c ts n B code rest =
-    (b : Formula) × (body : Code) × (code ≡ Guards s b body rest)
-    × (bound_value l.sizes b ≡ Some n)
-    × ((i : ℕ) → i < n → i ≡ start_value (ids_of l item) s → B ts i body End)
-AreTurnsFrom l item Alone s c ts n B code rest =
-    (i : ℕ) → i < n → i ≡ start_value (ids_of l item) s → B ts i code rest
 
 -- a form makes just the turns of a map of this length from each start below the stride
 abbrev pub MakesTurnsBy : MapForm → (len stride : ℕ) → Type 0
 MakesTurnsBy Looped n size = Unit {0}
 MakesTurnsBy Guarded n size = n ≤ size
 MakesTurnsBy Alone n size = n ≡ size
-
--- the statement of a map in a form, with nothing behind it
-abbrev pub statement_of : MapForm → Start → Stride → (bound : Formula) → (body : Code) → Code
-statement_of Looped s c b body = Loops s b c body End
-statement_of Guarded s c b body = Guards s b body End
-statement_of Alone s c b body = body
 
 -- the loops around its turns
 abbrev pub frames_in : MapForm → Device → (item : ℕ) → List Frame → Loop → (turn : ℕ) → List Frame

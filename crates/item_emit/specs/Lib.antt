@@ -3,5 +3,4 @@ pub mod Scopes
 pub mod Parts
 pub mod Copies
 pub mod Inputs
-pub mod Dimensions
 pub mod Nodes

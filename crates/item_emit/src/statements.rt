@@ -12,6 +12,7 @@ ghost use Rattle.lift_tree.specs.Types.{ty_of};
 ghost use Rattle.printed_form.specs.Arguments.{argument_view, private_arrays};
 ghost use Rattle.printed_form.specs.Counts.{let_variables, load_count, more, private_count, variable_count};
 ghost use Rattle.printed_form.specs.Form as form;
+ghost use Rattle.printed_form.specs.Form.{dimension_of};
 ghost use Rattle.printed_form.specs.Printer as printer;
 ghost use Rattle.printed_form.specs.Views.{held_sign, held_view, loaded_view, view_at};
 ghost use Rattle.array_views.specs.Counts.{count_of};
@@ -19,7 +20,6 @@ ghost use Rattle.array_views.specs.Views.{view_in};
 ghost use Rattle.lowering.specs.Terms.{fold_of, kind_of, load_set_of, map_of, term_of};
 ghost use Rattle.item_emit.specs.Blocks.{code_in};
 ghost use Rattle.item_emit.specs.Copies.{HasShortCopies};
-ghost use Rattle.item_emit.specs.Dimensions.{dimension_of};
 ghost use Rattle.item_emit.specs.Inputs.{inputs_in, spell_in};
 ghost use Rattle.item_emit.specs.Scopes.{scope_of};
 

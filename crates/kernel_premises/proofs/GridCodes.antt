@@ -2,22 +2,23 @@
 use Rattle.std.proofs.Common.{◌≡◌, ℕ, suc, ◌+◌, ◌*◌, ◌≤◌, Bool, true, false, List, length, refl, arith}
 use Rattle.size_arith.specs.declared.poly.Monomial.{Monomial}
 use Rattle.lift_tree.specs.Typing.{Declared}
+use Rattle.lift_tree.specs.declared.term.Level.TheVariants.{Groups, Items}
+use Rattle.lift_tree.specs.declared.term.Dimension.TheVariants as dimension
 use Rattle.kernel_tree.specs.declared.tree.Dimension.TheVariants.{X, Y}
 use Rattle.kernel_tree.specs.Formula.{Formula}
 use Rattle.kernel_tree.specs.Code.{Local as LocalArray, FromGroupId, ByGroupCount, Start, Stride, Code, End, Kernel}
 use Rattle.barrier_placement.specs.Fencing.{Fencing}
 use Rattle.lift_ir.specs.Fours.{Lie, Loose, Whole, element_lie, bound_lie, written_lie, ReadsFours, WritesFours}
-use Rattle.lift_ir.specs.Terms.{LoadSet, WorkGroup, Local, WorkGroupRows, LocalRows, LocalMemory, PrivateMemory, Term, Bound, Source, Both, Project, Reshape, LetArray, Map, Copy, push}
+use Rattle.lift_ir.specs.Terms.{LoadSet, Over, LocalMemory, PrivateMemory, Term, Bound, Source, Both, Project, Reshape, LetArray, Map, Copy, push}
 use Rattle.printed_form.specs.Arguments.{argument_view, private_arrays, local_arrays}
 use Rattle.printed_form.specs.Counts.{Count, AtMost, more, no_variables, load_count, variable_count, private_count, local_count}
-use Rattle.printed_form.specs.MapForms.{form_over_groups}
+use Rattle.printed_form.specs.MapForms.{form_over_groups, statement_of}
 use Rattle.printed_form.specs.Views.{View, rewritten_view, laid_view}
 use Rattle.printed_form.specs.Sound.{variables_of, stacked, IsReadWithin, IsWrittenWithin, loop_depth, AreLow, CanBeWritten, CanBeRead}
 use Rattle.printed_form.specs.GrammarViews.{FillsWithin}
 use Rattle.printed_form.specs.KernelGrammar.{IsSoundIn}
 use Rattle.printed_form.specs.GrammarPieces.{views_of_inputs, CanBePrinted}
 use Rattle.printed_form.proofs.Runs.{at_most}
-use Rattle.group_phases.specs.Strides.{statement_of}
 use Rattle.group_form.specs.Form.{Used, used_after}
 use Rattle.group_form.specs.Forms.{IsOfInputs}
 use Rattle.group_form.specs.GridPrinter.{print_along_row, print_local_nest, print_grid_argument, print_grid_written, print_along_groups, print_grid}
@@ -84,15 +85,15 @@ module _ (k : Kernel) (spell : List Monomial → Formula) (forms : GridForms (Li
       let v = more n (variable_count xs) in
       let p = a + private_count xs in
       let x = viewed env K xs in
-      maps.map_kept k spell S M d known Local L 0 (spell m) ls x 0 v (λ i. 0) env w 0 (λ i. Loose) Loose Loose (maps.print_element k spell S M d known Local L 0 (spell m) ls x 0 v p (λ i. 0) env w 0 (λ i. Loose) Loose Loose b)
-      (maps.element_kept k spell S M d known Local L 0 (spell m) ls x 0 v p (λ i. 0) env w 0 (λ i. Loose) Loose Loose b) (forms.columns.local m) rest r
+      maps.map_kept k spell S M d known (Over Items dimension.X) L 0 (spell m) ls x 0 v (λ i. 0) env w 0 (λ i. Loose) Loose Loose (maps.print_element k spell S M d known (Over Items dimension.X) L 0 (spell m) ls x 0 v p (λ i. 0) env w 0 (λ i. Loose) Loose Loose b)
+      (maps.element_kept k spell S M d known (Over Items dimension.X) L 0 (spell m) ls x 0 v p (λ i. 0) env w 0 (λ i. Loose) Loose Loose b) (forms.columns.local m) rest r
   along_kept L K a n env _ w rest r = r
 
   along_comes : (L D K a : ℕ) (n : Count) (g : ℕ → ℕ) (lies : ℕ → Lie) (to_lie : Lie) (env : ℕ → View) (t : Term A) (w : View) (W : ℕ) (rest : Code) → FillsWithin k S L W w → StandsAlongRow t → Can D W n a g lies to_lie t → Comes (print_along L K a n env t w rest)
   along_comes L D K a n g lies to_lie env (Reshape y t) w W rest tg st can =
       along_comes L D K a n g lies (written_lie y can.fours.0) env t (rewritten_view spell y w) (suc W) rest (known.views.result spell y L W w can.sound.0 tg) st.1
       (record { written = can.written.1; sound = can.sound.1; layouts = can.layouts; low = can.low; fours = can.fours.2; deep = can.deep; variables = can.variables; privates = can.privates })
-  along_comes L D K a n g lies to_lie env (Map Local m ls xs b) w W rest tg st can =
+  along_comes L D K a n g lies to_lie env (Map (Over Items dimension.X) m ls xs b) w W rest tg st can =
       let v = more n (variable_count xs) in
       let p = a + private_count xs in
       let x = viewed env K xs in
@@ -100,8 +101,8 @@ module _ (k : Kernel) (spell : List Monomial → Formula) (forms : GridForms (Li
       let deep = can.deep in
       let vars = can.variables in
       let priv = can.privates in
-      maps.map_comes k spell S M d known Local L 0 (spell m) ls x h v g env w W lies can.fours.0 to_lie (maps.print_element k spell S M d known Local L 0 (spell m) ls x h v p g env w W lies can.fours.0 to_lie b) tg
-      (maps.element_comes k spell S M d known Local L 0 (spell m) ls x h v p g env w W lies can.fours.0 to_lie b D (record { written = can.written.1; sound = can.sound.2; layouts = can.layouts.2; low = can.low.1; fours = can.fours.4; deep = omega arith; variables = at_most (omega arith) (omega arith); privates = omega arith }))
+      maps.map_comes k spell S M d known (Over Items dimension.X) L 0 (spell m) ls x h v g env w W lies can.fours.0 to_lie (maps.print_element k spell S M d known (Over Items dimension.X) L 0 (spell m) ls x h v p g env w W lies can.fours.0 to_lie b) tg
+      (maps.element_comes k spell S M d known (Over Items dimension.X) L 0 (spell m) ls x h v p g env w W lies can.fours.0 to_lie b D (record { written = can.written.1; sound = can.sound.2; layouts = can.layouts.2; low = can.low.1; fours = can.fours.4; deep = omega arith; variables = at_most (omega arith) (omega arith); privates = omega arith }))
       (forms.columns.local m) rest
   along_comes L D K a n g lies to_lie env _ w W rest tg st can = absurd st
 
@@ -109,7 +110,7 @@ module _ (k : Kernel) (spell : List Monomial → Formula) (forms : GridForms (Li
   along_fine L I K a n g lies to_lie env (Reshape y t) w W rest all tg st can locs f =
       along_fine L I K a n g lies (written_lie y can.fours.0) env t (rewritten_view spell y w) (suc W) rest all (filled k spell S M d known L W y to_lie can.fours.0 w can.sound.0 can.fours.1 tg) st.1
       (record { written = can.written.1; sound = can.sound.1; layouts = can.layouts; low = can.low; fours = can.fours.2; deep = can.deep; variables = can.variables; privates = can.privates }) locs f
-  along_fine L I K a n g lies to_lie env (Map Local m ls xs b) w W rest all tg st can locs f =
+  along_fine L I K a n g lies to_lie env (Map (Over Items dimension.X) m ls xs b) w W rest all tg st can locs f =
       let v = more n (variable_count xs) in
       let p = a + private_count xs in
       let x = viewed env K xs in
@@ -121,8 +122,8 @@ module _ (k : Kernel) (spell : List Monomial → Formula) (forms : GridForms (Li
       let most = can.layouts.0 in
       let room = known.room.fits in
       let inner : Can (suc (I + L)) W (more v (load_count ls)) p (push h g) (push (bound_lie ls (element_lie can.fours.0)) lies) (element_lie to_lie) b = record { written = can.written.1; sound = can.sound.2; layouts = can.layouts.2; low = can.low.1; fours = can.fours.4; deep = omega arith; variables = at_most (omega arith) (omega arith); privates = omega arith } in
-      maps.map_fine k spell S M d known Local L I (spell m) ls x h v g env w W lies can.fours.0 to_lie (maps.print_element k spell S M d known Local L I (spell m) ls x h v p g env w W lies can.fours.0 to_lie b) tg.0
-      (maps.element_comes k spell S M d known Local L I (spell m) ls x h v p g env w W lies can.fours.0 to_lie b (suc (I + L)) inner)
+      maps.map_fine k spell S M d known (Over Items dimension.X) L I (spell m) ls x h v g env w W lies can.fours.0 to_lie (maps.print_element k spell S M d known (Over Items dimension.X) L I (spell m) ls x h v p g env w W lies can.fours.0 to_lie b) tg.0
+      (maps.element_comes k spell S M d known (Over Items dimension.X) L I (spell m) ls x h v p g env w W lies can.fours.0 to_lie b (suc (I + L)) inner)
       (record {
         deep = omega arith;
         spelled = can.sound.0;
@@ -135,7 +136,7 @@ module _ (k : Kernel) (spell : List Monomial → Formula) (forms : GridForms (Li
         binders_lie = all.1;
         place_lies = tg.1;
       })
-      (maps.element_fine k spell S M d known Local L I (spell m) ls x h v p g env w W lies can.fours.0 to_lie b inner) (forms.columns.local m) rest f
+      (maps.element_fine k spell S M d known (Over Items dimension.X) L I (spell m) ls x h v p g env w W lies can.fours.0 to_lie b inner) (forms.columns.local m) rest f
   along_fine L I K a n g lies to_lie env _ w W rest all tg st can locs f = absurd st
 
   -- ---- a map over rows, around a map along a row, in so many loops and ifs
@@ -154,18 +155,18 @@ module _ (k : Kernel) (spell : List Monomial → Formula) (forms : GridForms (Li
 
     nest_kept : (rest : Code) → Comes rest → Comes (print_nest rest)
     nest_kept rest r =
-        maps.map_kept k spell S M d known LocalRows L I (spell m) ls x h u.variables g env w W lies from to_lie print_in_row
+        maps.map_kept k spell S M d known (Over Items dimension.Y) L I (spell m) ls x h u.variables g env w W lies from to_lie print_in_row
         (λ l e to last. along_kept l u.locals u.privates (more u.variables (load_count ls)) e b to last) (forms.rows.local m) rest r
 
     nest_comes : (D : ℕ) (rest : Code) → FillsWithin k S L W w → StandsAlongRow b → InRow D → Comes (print_nest rest)
     nest_comes D rest tg st can =
-        maps.map_comes k spell S M d known LocalRows L I (spell m) ls x h u.variables g env w W lies from to_lie print_in_row tg
+        maps.map_comes k spell S M d known (Over Items dimension.Y) L I (spell m) ls x h u.variables g env w W lies from to_lie print_in_row tg
         (λ l e to last at. along_comes l D u.locals u.privates (more u.variables (load_count ls)) (push h g) inside (element_lie to_lie) e b to W last at st can) (forms.rows.local m) rest
 
-    nest_fine : (rest : Code) → Fills k S L W to_lie w → StandsAlongRow b → InRow (suc (I + L)) → u.locals ≤ length k.locals → maps.HasRoom k spell S M d known LocalRows L I (spell m) ls x h u.variables g env w W lies from to_lie print_in_row → Right k L I rest → Right k L I (print_nest rest)
+    nest_fine : (rest : Code) → Fills k S L W to_lie w → StandsAlongRow b → InRow (suc (I + L)) → u.locals ≤ length k.locals → maps.HasRoom k spell S M d known (Over Items dimension.Y) L I (spell m) ls x h u.variables g env w W lies from to_lie print_in_row → Right k L I rest → Right k L I (print_nest rest)
     nest_fine rest tg st can locs has f =
         let deep = can.deep in
-        maps.map_fine k spell S M d known LocalRows L I (spell m) ls x h u.variables g env w W lies from to_lie print_in_row tg.0
+        maps.map_fine k spell S M d known (Over Items dimension.Y) L I (spell m) ls x h u.variables g env w W lies from to_lie print_in_row tg.0
         (λ l e to last at. along_comes l (suc (I + L)) u.locals u.privates (more u.variables (load_count ls)) (push h g) inside (element_lie to_lie) e b to W last at st can) has
         (λ l i e to last le all all_lie at to_lies ok. along_fine l i u.locals u.privates (more u.variables (load_count ls)) (push h g) inside (element_lie to_lie) e b to W last (all, all_lie) (at, to_lies) st
         (record { written = can.written; sound = can.sound; layouts = can.layouts; low = can.low; fours = can.fours; deep = omega arith; variables = can.variables; privates = can.privates }) locs ok) (forms.rows.local m) rest f
@@ -208,7 +209,7 @@ module _ (k : Kernel) (spell : List Monomial → Formula) (forms : GridForms (Li
     written_comes D g lies to_lie env u (LetArray v b) w W rest tg st can s most high fours deep vars priv =
         argument_kept env u v (print_to (push (viewed env u.locals v) env) (used_after u v) b w rest)
         (written_comes D (push (stacked g v) g) (push fours.0 lies) to_lie (push (viewed env u.locals v) env) (used_after u v) b w W rest tg st.1 can.1 s.1 most.1 high.1 fours.3 (omega arith) (at_most (omega arith) (omega arith)) (omega arith))
-    written_comes D g lies to_lie env u (Map LocalRows m ls xs b) w W rest tg st can s most high fours deep vars priv =
+    written_comes D g lies to_lie env u (Map (Over Items dimension.Y) m ls xs b) w W rest tg st can s most high fours deep vars priv =
         let x = viewed env u.locals xs in
         let v = used_after u xs in
         let nest = print_nest L I m ls x (stacked g xs) v g env w W lies fours.0 to_lie b rest in
@@ -245,7 +246,7 @@ module _ (k : Kernel) (spell : List Monomial → Formula) (forms : GridForms (Li
           argument_fine g lies env u v (print_to (push (viewed env u.locals v) env) (used_after u v) b w rest) all st.0 can.0 s.0 most.0 high.0 fours.2 (omega arith) (at_most (omega arith) (omega arith)) (omega arith) (omega arith) (omega arith)
           (written_fine (push (stacked g v) g) (push fours.0 lies) to_lie (push (viewed env u.locals v) env) (used_after u v) b w W rest
           (viewed_too k spell S M d known L u.locals g lies env v fours.0 all s.0 (omega arith) fours.1) tg st.1 can.1 s.1 most.1 high.1 fours.3 (omega arith) (at_most (omega arith) (omega arith)) (omega arith) (omega arith) (omega arith) f)
-      written_fine g lies to_lie env u (Map LocalRows m ls xs b) w W rest all tg st can s most high fours deep vars priv locs phs f =
+      written_fine g lies to_lie env u (Map (Over Items dimension.Y) m ls xs b) w W rest all tg st can s most high fours deep vars priv locs phs f =
           let x = viewed env u.locals xs in
           let v = used_after u xs in
           let nest = print_nest L I m ls x (stacked g xs) v g env w W lies fours.0 to_lie b rest in
@@ -270,14 +271,14 @@ module _ (k : Kernel) (spell : List Monomial → Formula) (forms : GridForms (Li
   -- ---- a map over the groups of a row
   along_groups_come : (L : ℕ) (n : Count) (env : ℕ → View) (t : Term A) (w : View) → StandsAlongGroups t → Comes (print_along_groups spell forms ins fence L env n t w)
   along_groups_come L n env (Reshape y t) w st = along_groups_come L n env t (rewritten_view spell y w) st.1
-  along_groups_come L n env (Map WorkGroup m ls xs b) w st = statement_comes (forms.columns.once m) (FromGroupId X) (ByGroupCount X) (spell m) _
+  along_groups_come L n env (Map (Over Groups dimension.X) m ls xs b) w st = statement_comes (forms.columns.once m) (FromGroupId X) (ByGroupCount X) (spell m) _
   along_groups_come L n env _ w st = absurd st
 
   along_groups_fine : (L I : ℕ) (n : Count) (g : ℕ → ℕ) (lies : ℕ → Lie) (to_lie : Lie) (env : ℕ → View) (t : Term A) (w : View) (W : ℕ) → Views k S L g lies env → Fills k S L W to_lie w → StandsAlongGroups t → Can (I + L) W n 0 g lies to_lie t → locals_along t ≤ length k.locals → phases_along t ≤ N → Right k L I (print_along_groups spell forms ins fence L env n t w)
   along_groups_fine L I n g lies to_lie env (Reshape y t) w W all tg st can locs phs =
       along_groups_fine L I n g lies (written_lie y can.fours.0) env t (rewritten_view spell y w) (suc W) all (filled k spell S M d known L W y to_lie can.fours.0 w can.sound.0 can.fours.1 tg) st.1
       (record { written = can.written.1; sound = can.sound.1; layouts = can.layouts; low = can.low; fours = can.fours.2; deep = can.deep; variables = can.variables; privates = can.privates }) locs phs
-  along_groups_fine L I n g lies to_lie env (Map WorkGroup m ls xs b) w W all tg st can locs phs =
+  along_groups_fine L I n g lies to_lie env (Map (Over Groups dimension.X) m ls xs b) w W all tg st can locs phs =
       let x = argument_view private_arrays spell ins env 0 xs in
       let h = stacked g xs in
       let deep = can.deep in
@@ -289,7 +290,7 @@ module _ (k : Kernel) (spell : List Monomial → Formula) (forms : GridForms (Li
       let inside = push (bound_lie ls (element_lie can.fours.0)) lies in
       let closing = fenced (fence (phases_in b)) End in
       let body : ℕ → (ℕ → View) → View → Code → Code = λ l e to last. print_to l 0 e used b to closing in
-      maps.statement_fine k spell S M d known WorkGroup L I (spell m) ls x h n g env w W lies can.fours.0 to_lie body tg.0
+      maps.statement_fine k spell S M d known (Over Groups dimension.X) L I (spell m) ls x h n g env w W lies can.fours.0 to_lie body tg.0
       (λ l e to last at. written_comes l 0 (suc (I + L)) (push h g) inside (element_lie to_lie) e used b to W closing at st.1 can.written.1 can.sound.2 can.layouts.2 can.low.1 can.fours.4 (omega arith) (at_most (omega arith) (omega arith)) (omega arith))
       (record {
         deep = omega arith;
@@ -312,7 +313,7 @@ module _ (k : Kernel) (spell : List Monomial → Formula) (forms : GridForms (Li
   pub grid_comes : (env : ℕ → View) (t : Term A) (w : View) → StandsOverGrid t → Comes (print_grid spell forms ins fence env t w)
   grid_comes env (Reshape y t) w st = grid_comes env t (rewritten_view spell y w) st.1
   grid_comes env (LetArray v b) w st = grid_comes (push (argument_view private_arrays spell ins env 0 v) env) b w st.1
-  grid_comes env (Map WorkGroupRows m ls xs b) w st = statement_comes (forms.rows.once m) (FromGroupId Y) (ByGroupCount Y) (spell m) _
+  grid_comes env (Map (Over Groups dimension.Y) m ls xs b) w st = statement_comes (forms.rows.once m) (FromGroupId Y) (ByGroupCount Y) (spell m) _
   grid_comes env _ w st = absurd st
 
   pub grid_fine : (g : ℕ → ℕ) (lies : ℕ → Lie) (to_lie : Lie) (env : ℕ → View) (t : Term A) (w : View) (W : ℕ) → Views k S 0 g lies env → Fills k S 0 W to_lie w → StandsOverGrid t → Can 0 W no_variables 0 g lies to_lie t → locals_over t ≤ length k.locals → grid_phase_count t ≤ N → Right k 0 0 (print_grid spell forms ins fence env t w)
@@ -327,7 +328,7 @@ module _ (k : Kernel) (spell : List Monomial → Formula) (forms : GridForms (Li
       grid_fine (push (stacked g v) g) (push can.fours.0 lies) to_lie (push x env) b w W
       (with_view k spell S M d known 0 g lies env (stacked g v) can.fours.0 x (known.terms.arguments PrivateMemory 0 0 g env v all.0 can.sound.0 (omega arith)) (known.terms.lying PrivateMemory 0 lies env v can.fours.0 all.1 can.fours.1) all) tg st.1
       (record { written = can.written.1; sound = can.sound.1; layouts = can.layouts.1; low = can.low.1; fours = can.fours.3; deep = omega arith; variables = at_most (omega arith) (omega arith); privates = omega arith }) locs phs
-  grid_fine g lies to_lie env (Map WorkGroupRows m ls xs b) w W all tg st can locs phs =
+  grid_fine g lies to_lie env (Map (Over Groups dimension.Y) m ls xs b) w W all tg st can locs phs =
       let x = argument_view private_arrays spell ins env 0 xs in
       let h = stacked g xs in
       let deep = can.deep in
@@ -336,7 +337,7 @@ module _ (k : Kernel) (spell : List Monomial → Formula) (forms : GridForms (Li
       let most = can.layouts.0 in
       let room = known.room.fits in
       let body : ℕ → (ℕ → View) → View → Code → Code = λ l e to last. print_along_groups spell forms ins fence l e (load_count ls) b to in
-      maps.statement_fine k spell S M d known WorkGroupRows 0 0 (spell m) ls x h no_variables g env w W lies can.fours.0 to_lie body tg.0 (λ l e to last at. along_groups_come l (load_count ls) e b to st.1)
+      maps.statement_fine k spell S M d known (Over Groups dimension.Y) 0 0 (spell m) ls x h no_variables g env w W lies can.fours.0 to_lie body tg.0 (λ l e to last at. along_groups_come l (load_count ls) e b to st.1)
       (record {
         deep = omega arith;
         spelled = can.sound.0;

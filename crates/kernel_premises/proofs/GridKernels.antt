@@ -3,7 +3,9 @@ use Rattle.std.proofs.Common.{◌≤◌, true, length, refl, arith}
 use Rattle.std.proofs.lemmas.List.{length-append}
 use Rattle.kernel_tree.specs.Code.{Output}
 use Rattle.lift_tree.specs.Annotations.{type_in}
-use Rattle.lift_ir.specs.Terms.{WorkGroup, WorkGroupRows, LocalMemory, Term, Reshape, LetArray, Map}
+use Rattle.lift_tree.specs.declared.term.Level.TheVariants.{Groups}
+use Rattle.lift_tree.specs.declared.term.Dimension.TheVariants.{X, Y}
+use Rattle.lift_ir.specs.Terms.{Over, LocalMemory, Term, Reshape, LetArray, Map}
 use Rattle.lift_ir.specs.AtLaunch.{shape_of}
 use Rattle.lift_ir.specs.Fours.{Whole, no_lie}
 use Rattle.printed_form.specs.Counts.{copy_lengths}
@@ -26,13 +28,13 @@ use Rattle.kernel_premises.proofs.GridCodes.{locals_along, locals_over, grid_com
 -- as many local arrays are declared as a turn has
 enough_along : {A : Type 0} (t : Term A) → StandsAlongGroups t → locals_along t ≤ length (copy_lengths LocalMemory t)
 enough_along (Reshape y t) st = enough_along t st.1
-enough_along (Map WorkGroup n loads xs b) st = let e = length-append (copy_lengths LocalMemory xs) (copy_lengths LocalMemory b) in let c = counted true b st.1 in omega arith
+enough_along (Map (Over Groups X) n loads xs b) st = let e = length-append (copy_lengths LocalMemory xs) (copy_lengths LocalMemory b) in let c = counted true b st.1 in omega arith
 enough_along _ st = absurd st
 
 enough_over : {A : Type 0} (t : Term A) → StandsOverGrid t → locals_over t ≤ length (copy_lengths LocalMemory t)
 enough_over (Reshape y t) st = enough_over t st.1
 enough_over (LetArray v b) st = let e = length-append (copy_lengths LocalMemory v) (copy_lengths LocalMemory b) in let r = enough_over b st.1 in omega arith
-enough_over (Map WorkGroupRows n loads xs b) st = let e = length-append (copy_lengths LocalMemory xs) (copy_lengths LocalMemory b) in let r = enough_along b st.1 in omega arith
+enough_over (Map (Over Groups Y) n loads xs b) st = let e = length-append (copy_lengths LocalMemory xs) (copy_lengths LocalMemory b) in let r = enough_along b st.1 in omega arith
 enough_over _ st = absurd st
 
 pub grid_kernels_are_of_the_grammar : ViewsStayWithin → MapsAreOfTheGrammar → TermsArePrintedWithin → GridKernelsAreOfTheGrammar

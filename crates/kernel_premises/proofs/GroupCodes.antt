@@ -2,26 +2,25 @@
 use Rattle.std.proofs.Common.{◌≡◌, ℕ, suc, ◌+◌, ◌*◌, ◌≤◌, Bool, true, false, List, length, refl, subst, arith}
 use Rattle.size_arith.specs.declared.poly.Monomial.{Monomial}
 use Rattle.lift_tree.specs.Typing.{Declared}
-use Rattle.kernel_tree.specs.declared.tree.Dimension.TheVariants.{X}
+use Rattle.lift_tree.specs.declared.term.Level.TheVariants.{Groups, Items}
+use Rattle.lift_tree.specs.declared.term.Dimension.TheVariants.{X}
 use Rattle.kernel_tree.specs.Formula.{Formula}
-use Rattle.kernel_tree.specs.Code.{Local as LocalArray, FromGroupId, FromLocalId, ByGroupCount, ByLocalSize, Code, End, Kernel}
+use Rattle.kernel_tree.specs.Code.{Local as LocalArray, Code, End, Kernel}
 use Rattle.barrier_placement.specs.Fencing.{Fencing}
 use Rattle.lift_ir.specs.Fours.{Lie, Loose, Whole, element_lie, bound_lie, written_lie, ReadsFours, WritesFours}
-use Rattle.lift_ir.specs.Terms.{LoadSet, WorkGroup, Local, LocalMemory, PrivateMemory, Term, Bound, Source, Both, Project, Reshape, LetArray, Map, Copy, push}
+use Rattle.lift_ir.specs.Terms.{LoadSet, Over, LocalMemory, PrivateMemory, Term, Bound, Source, Both, Project, Reshape, LetArray, Map, Copy, push}
 use Rattle.printed_form.specs.Arguments.{argument_view, private_arrays, local_arrays}
 use Rattle.printed_form.specs.Counts.{Count, AtMost, more, no_variables, load_count, variable_count, private_count, local_count}
-use Rattle.printed_form.specs.MapForms.{MapForm, Looped, Guarded, Alone, MapForms, form_over_groups, statement_over_groups}
+use Rattle.printed_form.specs.MapForms.{MapForms, statement_over_groups}
 use Rattle.printed_form.specs.Views.{View, rewritten_view, laid_view}
 use Rattle.printed_form.specs.Sound.{variables_of, stacked, IsReadWithin, IsWrittenWithin, loop_depth, AreLow, CanBeWritten, CanBeRead}
 use Rattle.printed_form.specs.GrammarViews.{FillsWithin}
 use Rattle.printed_form.specs.KernelGrammar.{IsSoundIn}
 use Rattle.printed_form.specs.GrammarPieces.{views_of_inputs, CanBePrinted}
 use Rattle.printed_form.proofs.Runs.{at_most}
-use Rattle.group_phases.specs.Strides.{statement_of}
 use Rattle.group_form.specs.Form.{Used, used_after}
 use Rattle.group_form.specs.Forms.{StandsInGroup, StandsOverGroups}
-use Rattle.group_form.specs.GridPrinter.{turn_from, print_turns_from}
-use Rattle.group_form.specs.Printer.{turn_formula, depth_in, print_turns, fenced, print_local_map, print_group_argument, print_group_written, print_groups}
+use Rattle.group_form.specs.Printer.{fenced, print_local_map, print_group_argument, print_group_written, print_groups}
 use Rattle.group_form.specs.Uses.{phases_in, phase_count}
 use Rattle.kernel_premises.specs.GroupGrammar.{IsFlagged}
 use Rattle.kernel_premises.proofs.MapCodes as maps
@@ -34,19 +33,7 @@ locals_of (LetArray v b) = locals_of b
 locals_of (Map kind n loads xs b) = local_count b
 locals_of _ = 0
 
--- a local map, and a map over groups, begin and step as their kinds say
-same_turns : (form : MapForm) (depth : ℕ) (bound : Formula) (turn : Formula → ℕ → Code → Code) (rest : Code)
-    → print_turns_from form (FromLocalId X) (ByLocalSize X) bound (turn (turn_from form (FromLocalId X) depth) (depth_in form depth)) rest ≡ print_turns form Local bound (turn (turn_formula form Local depth) (depth_in form depth)) rest
-same_turns Looped depth bound turn rest = refl
-same_turns Guarded depth bound turn rest = refl
-same_turns Alone depth bound turn rest = refl
-
-same_statement : (once : Bool) (bound : Formula) (turn : Formula → ℕ → Code)
-    → statement_of (form_over_groups once) (FromGroupId X) (ByGroupCount X) bound (turn (turn_from (form_over_groups once) (FromGroupId X) 0) (depth_in (form_over_groups once) 0)) ≡ statement_over_groups once bound (turn (turn_formula (form_over_groups once) WorkGroup 0) (depth_in (form_over_groups once) 0))
-same_statement false bound turn = refl
-same_statement true bound turn = refl
-
-statement_comes : (once : Bool) (bound : Formula) (body : Code) → Comes (statement_over_groups once bound body)
+statement_comes : (once : Bool) (bound : Formula) (body : Code) → Comes (statement_over_groups X once bound body)
 statement_comes false bound body = refl
 statement_comes true bound body = refl
 
@@ -71,7 +58,7 @@ module _ (k : Kernel) (spell : List Monomial → Formula) (forms : MapForms (Lis
   -- ---- a local map, in so many loops and ifs
   module _ (L I : ℕ) (m : A) (ls : LoadSet) (x : View) (h : ℕ) (u : Used) (g : ℕ → ℕ) (env : ℕ → View) (w : View) (W : ℕ) (lies : ℕ → Lie) (from to_lie : Lie) (b : Term A) where
     abbrev element : (depth : ℕ) (env : ℕ → View) (w : View) (last : Code) → Code
-    element = maps.print_element k spell S M d known Local L I (spell m) ls x h u.variables u.privates g env w W lies from to_lie b
+    element = maps.print_element k spell S M d known (Over Items X) L I (spell m) ls x h u.variables u.privates g env w W lies from to_lie b
 
     abbrev InTurn : ℕ → Type 0
     InTurn D = Can D W (more u.variables (load_count ls)) u.privates (push h g) (push (bound_lie ls (element_lie from)) lies) (element_lie to_lie) b
@@ -79,24 +66,24 @@ module _ (k : Kernel) (spell : List Monomial → Formula) (forms : MapForms (Lis
     abbrev print_local : Code → Code
     print_local rest = print_local_map spell forms ins fence L env u m ls x b w rest
 
-    shown : (rest : Code) → maps.print_map k spell S M d known Local L I (spell m) ls x h u.variables g env w W lies from to_lie element (forms.local m) rest ≡ print_local rest
-    shown rest = same_turns (forms.local m) L (spell m) (maps.print_turn k spell S M d known Local L I (spell m) ls x h u.variables g env w W lies from to_lie element) rest
+    shown : (rest : Code) → maps.print_map k spell S M d known (Over Items X) L I (spell m) ls x h u.variables g env w W lies from to_lie element (forms.local m) rest ≡ print_local rest
+    shown rest = refl
 
     local_kept : (rest : Code) → Comes rest → Comes (print_local rest)
     local_kept rest r =
         subst Comes (shown rest)
-        (maps.map_kept k spell S M d known Local L I (spell m) ls x h u.variables g env w W lies from to_lie element (maps.element_kept k spell S M d known Local L I (spell m) ls x h u.variables u.privates g env w W lies from to_lie b) (forms.local m) rest r)
+        (maps.map_kept k spell S M d known (Over Items X) L I (spell m) ls x h u.variables g env w W lies from to_lie element (maps.element_kept k spell S M d known (Over Items X) L I (spell m) ls x h u.variables u.privates g env w W lies from to_lie b) (forms.local m) rest r)
 
     local_comes : (D : ℕ) (rest : Code) → FillsWithin k S L W w → InTurn D → Comes (print_local rest)
     local_comes D rest tg can =
         subst Comes (shown rest)
-        (maps.map_comes k spell S M d known Local L I (spell m) ls x h u.variables g env w W lies from to_lie element tg (maps.element_comes k spell S M d known Local L I (spell m) ls x h u.variables u.privates g env w W lies from to_lie b D can) (forms.local m) rest)
+        (maps.map_comes k spell S M d known (Over Items X) L I (spell m) ls x h u.variables g env w W lies from to_lie element tg (maps.element_comes k spell S M d known (Over Items X) L I (spell m) ls x h u.variables u.privates g env w W lies from to_lie b D can) (forms.local m) rest)
 
-    local_fine : (rest : Code) → Fills k S L W to_lie w → InTurn (suc (I + L)) → maps.HasRoom k spell S M d known Local L I (spell m) ls x h u.variables g env w W lies from to_lie element → Right k L I rest → Right k L I (print_local rest)
+    local_fine : (rest : Code) → Fills k S L W to_lie w → InTurn (suc (I + L)) → maps.HasRoom k spell S M d known (Over Items X) L I (spell m) ls x h u.variables g env w W lies from to_lie element → Right k L I rest → Right k L I (print_local rest)
     local_fine rest tg can has f =
         subst (Right k L I) (shown rest)
-        (maps.map_fine k spell S M d known Local L I (spell m) ls x h u.variables g env w W lies from to_lie element tg.0 (maps.element_comes k spell S M d known Local L I (spell m) ls x h u.variables u.privates g env w W lies from to_lie b (suc (I + L)) can) has
-        (maps.element_fine k spell S M d known Local L I (spell m) ls x h u.variables u.privates g env w W lies from to_lie b can) (forms.local m) rest f)
+        (maps.map_fine k spell S M d known (Over Items X) L I (spell m) ls x h u.variables g env w W lies from to_lie element tg.0 (maps.element_comes k spell S M d known (Over Items X) L I (spell m) ls x h u.variables u.privates g env w W lies from to_lie b (suc (I + L)) can) has
+        (maps.element_fine k spell S M d known (Over Items X) L I (spell m) ls x h u.variables u.privates g env w W lies from to_lie b can) (forms.local m) rest f)
 
   -- ---- a turn of the map over groups, in so many loops and ifs
   module _ (L I : ℕ) where
@@ -136,7 +123,7 @@ module _ (k : Kernel) (spell : List Monomial → Formula) (forms : MapForms (Lis
     written_comes D g lies to_lie env u (LetArray v b) w W rest tg st can s most high fours deep vars priv =
         argument_kept env u v (print_to (push (viewed env u.locals v) env) (used_after u v) b w rest)
         (written_comes D (push (stacked g v) g) (push fours.0 lies) to_lie (push (viewed env u.locals v) env) (used_after u v) b w W rest tg st.1 can.1 s.1 most.1 high.1 fours.3 (omega arith) (at_most (omega arith) (omega arith)) (omega arith))
-    written_comes D g lies to_lie env u (Map Local m ls xs b) w W rest tg st can s most high fours deep vars priv =
+    written_comes D g lies to_lie env u (Map (Over Items X) m ls xs b) w W rest tg st can s most high fours deep vars priv =
         let x = viewed env u.locals xs in
         let v = used_after u xs in
         let map = print_local L I m ls x (stacked g xs) v g env w W lies fours.0 to_lie b rest in
@@ -173,7 +160,7 @@ module _ (k : Kernel) (spell : List Monomial → Formula) (forms : MapForms (Lis
           argument_fine g lies env u v (print_to (push (viewed env u.locals v) env) (used_after u v) b w rest) all st.0 can.0 s.0 most.0 high.0 fours.2 (omega arith) (at_most (omega arith) (omega arith)) (omega arith) (omega arith) (omega arith)
           (written_fine (push (stacked g v) g) (push fours.0 lies) to_lie (push (viewed env u.locals v) env) (used_after u v) b w W rest
           (viewed_too k spell S M d known L u.locals g lies env v fours.0 all s.0 (omega arith) fours.1) tg st.1 can.1 s.1 most.1 high.1 fours.3 (omega arith) (at_most (omega arith) (omega arith)) (omega arith) (omega arith) (omega arith) f)
-      written_fine g lies to_lie env u (Map Local m ls xs b) w W rest all tg st can s most high fours deep vars priv locs phs f =
+      written_fine g lies to_lie env u (Map (Over Items X) m ls xs b) w W rest all tg st can s most high fours deep vars priv locs phs f =
           let x = viewed env u.locals xs in
           let v = used_after u xs in
           let map = print_local L I m ls x (stacked g xs) v g env w W lies fours.0 to_lie b rest in
@@ -199,7 +186,7 @@ module _ (k : Kernel) (spell : List Monomial → Formula) (forms : MapForms (Lis
   pub groups_come : (env : ℕ → View) (t : Term A) (w : View) → StandsOverGroups t → Comes (print_groups spell forms ins fence env t w)
   groups_come env (Reshape y t) w st = groups_come env t (rewritten_view spell y w) st.1
   groups_come env (LetArray v b) w st = groups_come (push (argument_view private_arrays spell ins env 0 v) env) b w st.1
-  groups_come env (Map WorkGroup m ls xs b) w st = statement_comes (forms.once m) (spell m) _
+  groups_come env (Map (Over Groups X) m ls xs b) w st = statement_comes (forms.once m) (spell m) _
   groups_come env _ w st = absurd st
 
   pub groups_fine : (g : ℕ → ℕ) (lies : ℕ → Lie) (to_lie : Lie) (env : ℕ → View) (t : Term A) (w : View) (W : ℕ) → Views k S 0 g lies env → Fills k S 0 W to_lie w → StandsOverGroups t → Can 0 W no_variables 0 g lies to_lie t → locals_of t ≤ length k.locals → phase_count t ≤ N → Right k 0 0 (print_groups spell forms ins fence env t w)
@@ -214,7 +201,7 @@ module _ (k : Kernel) (spell : List Monomial → Formula) (forms : MapForms (Lis
       groups_fine (push (stacked g v) g) (push can.fours.0 lies) to_lie (push x env) b w W
       (with_view k spell S M d known 0 g lies env (stacked g v) can.fours.0 x (known.terms.arguments PrivateMemory 0 0 g env v all.0 can.sound.0 (omega arith)) (known.terms.lying PrivateMemory 0 lies env v can.fours.0 all.1 can.fours.1) all) tg st.1
       (record { written = can.written.1; sound = can.sound.1; layouts = can.layouts.1; low = can.low.1; fours = can.fours.3; deep = omega arith; variables = at_most (omega arith) (omega arith); privates = omega arith }) locs phs
-  groups_fine g lies to_lie env (Map WorkGroup m ls xs b) w W all tg st can locs phs =
+  groups_fine g lies to_lie env (Map (Over Groups X) m ls xs b) w W all tg st can locs phs =
       let x = argument_view private_arrays spell ins env 0 xs in
       let h = stacked g xs in
       let deep = can.deep in
@@ -226,8 +213,7 @@ module _ (k : Kernel) (spell : List Monomial → Formula) (forms : MapForms (Lis
       let inside = push (bound_lie ls (element_lie can.fours.0)) lies in
       let closing = fenced (fence (phases_in b)) End in
       let body : ℕ → (ℕ → View) → View → Code → Code = λ l e to last. print_to l 0 e used b to closing in
-      subst (Right k 0 0) (same_statement (forms.once m) (spell m) (λ turn l. maps.print_turn k spell S M d known WorkGroup 0 0 (spell m) ls x h no_variables g env w W lies can.fours.0 to_lie body turn l End))
-      (maps.statement_fine k spell S M d known WorkGroup 0 0 (spell m) ls x h no_variables g env w W lies can.fours.0 to_lie body tg.0
+      (maps.statement_fine k spell S M d known (Over Groups X) 0 0 (spell m) ls x h no_variables g env w W lies can.fours.0 to_lie body tg.0
       (λ l e to last at. written_comes l 0 1 (push h g) inside (element_lie to_lie) e used b to W closing at st.1 can.written.1 can.sound.2 can.layouts.2 can.low.1 can.fours.4 (omega arith) (at_most (omega arith) (omega arith)) (omega arith))
       (record {
         deep = omega arith;

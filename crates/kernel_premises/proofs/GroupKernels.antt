@@ -4,7 +4,9 @@ use Rattle.std.proofs.lemmas.List.{length-append}
 use Rattle.size_arith.specs.declared.poly.Monomial.{Monomial}
 use Rattle.kernel_tree.specs.Code.{Output}
 use Rattle.lift_tree.specs.Annotations.{type_in}
-use Rattle.lift_ir.specs.Terms.{WorkGroup, LocalMemory, Term, Reshape, LetArray, Map}
+use Rattle.lift_tree.specs.declared.term.Level.TheVariants.{Groups}
+use Rattle.lift_tree.specs.declared.term.Dimension.TheVariants.{X}
+use Rattle.lift_ir.specs.Terms.{Over, LocalMemory, Term, Reshape, LetArray, Map}
 use Rattle.lift_ir.specs.AtLaunch.{shape_of}
 use Rattle.lift_ir.specs.Fours.{Whole, no_lie}
 use Rattle.printed_form.specs.Counts.{copy_lengths}
@@ -28,7 +30,7 @@ use Rattle.kernel_premises.proofs.GroupCodes.{locals_of, groups_come, groups_fin
 enough_locals : {A : Type 0} → LocalArraysAreCounted A → (t : Term A) → StandsOverGroups t → locals_of t ≤ length (copy_lengths LocalMemory t)
 enough_locals counted (Reshape y t) st = enough_locals counted t st.1
 enough_locals counted (LetArray v b) st = let e = length-append (copy_lengths LocalMemory v) (copy_lengths LocalMemory b) in let r = enough_locals counted b st.1 in omega arith
-enough_locals counted (Map WorkGroup n loads xs b) st = let e = length-append (copy_lengths LocalMemory xs) (copy_lengths LocalMemory b) in let c = counted b st.1 in omega arith
+enough_locals counted (Map (Over Groups X) n loads xs b) st = let e = length-append (copy_lengths LocalMemory xs) (copy_lengths LocalMemory b) in let c = counted b st.1 in omega arith
 enough_locals counted _ st = absurd st
 
 pub group_kernels_are_of_the_grammar : ViewsStayWithin → MapsAreOfTheGrammar → TermsArePrintedWithin → LocalArraysAreCounted (List Monomial) → GroupKernelsAreOfTheGrammar

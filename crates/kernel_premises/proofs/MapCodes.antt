@@ -4,6 +4,7 @@ use Rattle.std.specs.Prelude.{◌||◌}
 use Rattle.std.proofs.lemmas.Bool.{lt-ltb, and_from}
 use Rattle.size_arith.specs.declared.poly.Monomial.{Monomial}
 use Rattle.lift_tree.specs.Typing.{Declared}
+use Rattle.lift_tree.specs.declared.term.Level.TheVariants.{Launch, Groups, Items}
 use Rattle.kernel_tree.specs.Formula.{Formula, LoopVariable}
 use Rattle.kernel_tree.specs.Code.{Local as LocalArray, Code, End, Kernel}
 use Rattle.kernel_tree.specs.Grammar.{has_statement, are_statements}
@@ -11,20 +12,18 @@ use Rattle.barrier_placement.specs.Fencing.{Fencing, Open, Fenced}
 use Rattle.lift_ir.specs.Fours.{Lie, Whole, Serves, element_lie, bound_lie, written_lie, Lies, LoadsFours}
 use Rattle.lift_ir.specs.Layouts.{Layout}
 use Rattle.lift_ir.specs.Types.{Ty, width}
-use Rattle.lift_ir.specs.Terms.{LoadSet, Kind, Global, WorkGroup, Local, Sequential, GlobalRows, WorkGroupRows, LocalRows, LocalMemory, Term, push}
+use Rattle.lift_ir.specs.Terms.{LoadSet, Kind, Over, Sequential, LocalMemory, Term, push}
 use Rattle.printed_form.specs.Arguments.{argument_view, local_arrays}
 use Rattle.printed_form.specs.Counts.{Count, AtMost, more, load_count, local_count}
 use Rattle.printed_form.specs.Form.{start_of, stride_of}
-use Rattle.printed_form.specs.MapForms.{MapForm, Looped, Guarded, Alone, form_over_groups}
+use Rattle.printed_form.specs.MapForms.{MapForm, Looped, Guarded, Alone, form_over_groups, statement_of}
 use Rattle.printed_form.specs.Views.{View, loaded_view, view_at, rewritten_view, laid_view}
 use Rattle.printed_form.specs.Printer.{print_loaded, print_written}
 use Rattle.printed_form.specs.Sound.{variables_of, IsSpelledIn, AllLengths, IsSoundLayout, dimensions, stacked}
 use Rattle.printed_form.specs.GrammarViews.{IsTurnFormula, ReadsWithin, FillsWithin, AllReadWithin, LiesShared, AllLieShared}
 use Rattle.printed_form.specs.KernelGrammar.{IsSoundIn}
 use Rattle.printed_form.specs.GrammarPieces.{ViewsStay, MapsStay, HasRoomFor, views_of_inputs, CanBePrinted, TermsAreOfTheGrammar}
-use Rattle.group_phases.specs.Strides.{statement_of}
-use Rattle.group_form.specs.GridPrinter.{start_formula, turn_from, print_turns_from}
-use Rattle.group_form.specs.Printer.{depth_in, fenced}
+use Rattle.group_form.specs.Printer.{depth_in, fenced, start_formula, turn_from, print_turns_from}
 use Rattle.kernel_premises.specs.GroupGrammar.{IsFlagged}
 
 -- what is known of the pieces of printed kernels
@@ -68,13 +67,10 @@ loop_turn : (k : Kernel) (l : ℕ) → IsTurnFormula k (suc l) (LoopVariable l)
 loop_turn k l m le = (lt-ltb l m (omega arith), omega arith)
 
 own_turn : (k : Kernel) (kind : Kind) (l : ℕ) → IsTurnFormula k l (start_formula (start_of kind))
-own_turn k Global l m le = (refl, omega arith)
-own_turn k WorkGroup l m le = (refl, omega arith)
-own_turn k Local l m le = (refl, omega arith)
+own_turn k (Over Launch _) l m le = (refl, omega arith)
+own_turn k (Over Groups _) l m le = (refl, omega arith)
+own_turn k (Over Items _) l m le = (refl, omega arith)
 own_turn k Sequential l m le = (refl, omega arith)
-own_turn k GlobalRows l m le = (refl, omega arith)
-own_turn k WorkGroupRows l m le = (refl, omega arith)
-own_turn k LocalRows l m le = (refl, omega arith)
 
 module _ (k : Kernel) (spell : List Monomial → Formula) (S M : ℕ) (d : Declared) (known : Pieces k spell S M d) where
   abbrev Reads : ℕ → (ℕ → ℕ) → (ℕ → View) → Type 0

@@ -1,8 +1,10 @@
 -- What a printer prints can be written.
 use Rattle.std.proofs.Common.{true, false, inl, inr}
+use Rattle.lift_tree.specs.declared.term.Level.TheVariants.{Launch, Groups, Items}
+use Rattle.lift_tree.specs.declared.term.Dimension.TheVariants.{X, Y}
 use Rattle.lift_ir.specs.Forms.{Stands, StandsAlongRow, StandsOverLaunch}
 use Rattle.lift_ir.specs.Lowering.{Lowered}
-use Rattle.lift_ir.specs.Terms.{Both, Bound, Copy, Fold, Global, GlobalRows, LetArray, LetElement, Local, LocalMemory, LocalRows, Map, PrivateMemory, Project, Reshape, Sequential, Source, Store, WorkGroup, WorkGroupRows}
+use Rattle.lift_ir.specs.Terms.{Both, Bound, Copy, Fold, Over, LetArray, LetElement, LocalMemory, Map, PrivateMemory, Project, Reshape, Sequential, Source, Store}
 use Rattle.printed_form.specs.Sound.{CanBeRead, CanBeWritten}
 use Rattle.group_form.specs.Forms.{IsOfInputs, StandsInGroup, StandsOverGroups}
 use Rattle.group_form.specs.GridTerms as grid
@@ -33,14 +35,14 @@ mutual
 -- ---- over the launch
 along_written : (t : Lowered) → StandsAlongRow t → CanBeWritten t
 along_written (Reshape l x) s = (s.0, along_written x s.1)
-along_written (Map Global n ls xs b) s = (item_read xs s.0, item_written b s.1)
+along_written (Map (Over Launch X) n ls xs b) s = (item_read xs s.0, item_written b s.1)
 along_written _ s = absurd s
 
 launch_written : (t : Lowered) → StandsOverLaunch t → CanBeWritten t
 launch_written (Reshape l x) s = (s.0, launch_written x s.1)
 launch_written (LetArray v b) s = (item_read v s.0, launch_written b s.1)
-launch_written (Map Global n ls xs b) s = (item_read xs s.0, item_written b s.1)
-launch_written (Map GlobalRows n ls xs b) s = (item_read xs s.0, along_written b s.1)
+launch_written (Map (Over Launch X) n ls xs b) s = (item_read xs s.0, item_written b s.1)
+launch_written (Map (Over Launch Y) n ls xs b) s = (item_read xs s.0, along_written b s.1)
 launch_written _ s = absurd s
 
 -- ---- over work-groups
@@ -48,7 +50,7 @@ mutual
   written_in_group : (t : Lowered) → StandsInGroup true t → CanBeWritten t
   written_in_group (Reshape l x) s = (s.0, written_in_group x s.1)
   written_in_group (LetArray v b) s = (read_in_group v s.0, written_in_group b s.1)
-  written_in_group (Map Local n ls xs b) s = (read_in_group xs s.0, item_written b s.1)
+  written_in_group (Map (Over Items X) n ls xs b) s = (read_in_group xs s.0, item_written b s.1)
   written_in_group _ s = absurd s
 
   read_in_group : (t : Lowered) → StandsInGroup false t → CanBeRead t
@@ -73,20 +75,20 @@ inputs_read _ s = absurd s
 groups_written : (t : Lowered) → StandsOverGroups t → CanBeWritten t
 groups_written (Reshape l x) s = (s.0, groups_written x s.1)
 groups_written (LetArray v b) s = (inputs_read v s.0, groups_written b s.1)
-groups_written (Map WorkGroup n ls xs b) s = (inputs_read xs s.0, written_in_group b s.1)
+groups_written (Map (Over Groups X) n ls xs b) s = (inputs_read xs s.0, written_in_group b s.1)
 groups_written _ s = absurd s
 
 -- ---- over work-groups in two dimensions
 row_written : (t : Lowered) → grid.StandsAlongRow t → CanBeWritten t
 row_written (Reshape l x) s = (s.0, row_written x s.1)
-row_written (Map Local n ls xs b) s = (inputs_read xs s.0, item_written b s.1)
+row_written (Map (Over Items X) n ls xs b) s = (inputs_read xs s.0, item_written b s.1)
 row_written _ s = absurd s
 
 mutual
   written_in_grid : (t : Lowered) → StandsInGrid true t → CanBeWritten t
   written_in_grid (Reshape l x) s = (s.0, written_in_grid x s.1)
   written_in_grid (LetArray v b) s = (read_in_grid v s.0, written_in_grid b s.1)
-  written_in_grid (Map LocalRows n ls xs b) s = (read_in_grid xs s.0, row_written b s.1)
+  written_in_grid (Map (Over Items Y) n ls xs b) s = (read_in_grid xs s.0, row_written b s.1)
   written_in_grid _ s = absurd s
 
   read_in_grid : (t : Lowered) → StandsInGrid false t → CanBeRead t
@@ -101,13 +103,13 @@ mutual
 
 along_groups_written : (t : Lowered) → StandsAlongGroups t → CanBeWritten t
 along_groups_written (Reshape l x) s = (s.0, along_groups_written x s.1)
-along_groups_written (Map WorkGroup n ls xs b) s = (inputs_read xs s.0, written_in_grid b s.1)
+along_groups_written (Map (Over Groups X) n ls xs b) s = (inputs_read xs s.0, written_in_grid b s.1)
 along_groups_written _ s = absurd s
 
 grid_written : (t : Lowered) → StandsOverGrid t → CanBeWritten t
 grid_written (Reshape l x) s = (s.0, grid_written x s.1)
 grid_written (LetArray v b) s = (inputs_read v s.0, grid_written b s.1)
-grid_written (Map WorkGroupRows n ls xs b) s = (inputs_read xs s.0, along_groups_written b s.1)
+grid_written (Map (Over Groups Y) n ls xs b) s = (inputs_read xs s.0, along_groups_written b s.1)
 grid_written _ s = absurd s
 
 pub terms_can_be_written : TermsCanBeWritten

@@ -1,3 +1,4 @@
+pub mod Agreeing
 pub mod AtKeys
 pub mod Exact
 pub mod InOrder
@@ -7,11 +8,13 @@ pub mod Listed
 pub mod Names
 pub mod NamesAt
 pub mod Options
+pub mod Pairing
 pub mod Proper
 pub mod Ranges
 pub mod ReadValues
 pub mod StagesExact
 pub mod Texts
+pub mod Turns
 pub mod TypedValues
 pub mod Whole
 pub mod WrittenData

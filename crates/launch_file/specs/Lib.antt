@@ -1,3 +1,4 @@
+pub mod Asked
 pub mod Json
 pub mod Inputs
 pub mod Judged
@@ -8,4 +9,5 @@ pub mod ResultLine
 pub mod Shown
 pub mod Stages
 pub mod StagesShown
+pub mod Tokens
 pub mod TraceLines

@@ -20,8 +20,9 @@ ghost use Rattle.launch_file.specs.Judged.{
 ghost use Rattle.launch_file.specs.LaunchFile.{IsLaunchFile, ask_of, asked_inputs, asks_in, given_by};
 ghost use Rattle.launch_file.specs.declared.refusal.LaunchNo.TheVariants.{Memory};
 
-use crate::json::discard;
 use crate::keys::{Keyed, find_keys};
+use crate::lookup::discard;
+use crate::reading::value_of;
 use crate::refusal::LaunchNo;
 use crate::sizes::{bases_of, sizes_in};
 use crate::values::inputs_in;
@@ -30,7 +31,7 @@ use lift_tree::asks::Asks;
 use lift_tree::local_size::LocalSize;
 use lift_tree::program::Program;
 use lift_tree::value::Val;
-use serde_json::{Category, Value};
+use serde_json::Value;
 use size_arith::Sizes;
 use std::alloc::Global;
 
@@ -194,7 +195,6 @@ fn launch_in(
     })
 }
 
-#[tactic(auto, using(crate::proofs::Whole::launch_file_is))]
 /// The launch file that the bytes are for a program: an admissible launch, and inputs of their
 /// types.
 ///
@@ -223,13 +223,8 @@ pub fn read_launch(
     ensures refused { IfErr result (λ e. e ≢ Memory
         → Refuses (program_of program.now) (ask_of ask) bytes.now e) }
 {
-    match Value::from_slice(alloc, bytes) {
-        Ok(value) => {
-            let launch = launch_in(alloc, &value, program, ask);
-            discard(value);
-            launch
-        }
-        Err(error) if error.classify() == Category::Memory => Err(LaunchNo::Memory),
-        Err(_) => Err(LaunchNo::NotJson),
-    }
+    let value = value_of(alloc, program, bytes)?;
+    let launch = launch_in(alloc, &value, program, ask);
+    discard(value);
+    launch
 }

@@ -12,7 +12,7 @@ ghost use Rattle.launch_file.specs.Shown.{keyed_of};
 ghost use Rattle.launch_file.specs.declared.refusal.LaunchNo.TheVariants.{Memory};
 
 use crate::file::{Ask, Pair};
-use crate::json::{object_at, pair_at, word, words};
+use crate::lookup::{object_at, pair_at, word, words};
 use crate::refusal::{Key, LaunchNo};
 use kernel_tree::launches::Schedule;
 use serde_json::Value;

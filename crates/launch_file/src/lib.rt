@@ -2,12 +2,16 @@
 //! prints, and the lines of a trace.
 #![tactic(auto)]
 
+mod asked;
 pub mod file;
-mod json;
 mod keys;
 pub mod laws;
 mod length;
 pub mod line;
+mod lookup;
+mod numbers;
+mod passing;
+mod reading;
 pub mod refusal;
 pub mod result;
 mod sizes;

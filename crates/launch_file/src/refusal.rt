@@ -2,6 +2,7 @@
 
 ghost use Rattle.std.specs.Prelude.{◌≡◌};
 
+use json::Invalid;
 use std::alloc::{AllocError, AllocFailed};
 use thiserror::Error;
 
@@ -85,5 +86,15 @@ impl<T: Drop> From<AllocFailed<T>> for LaunchNo {
 
     fn from(_: AllocFailed<T>) -> Self {
         LaunchNo::Memory
+    }
+}
+
+impl From<Invalid> for LaunchNo {
+    ghost use Rattle.launch_file.specs.declared.refusal.LaunchNo.TheVariants.{NotJson};
+
+    ghost from_gives = { λ _ e. e ≡ NotJson };
+
+    fn from(_: Invalid) -> Self {
+        LaunchNo::NotJson
     }
 }

@@ -8,7 +8,7 @@ ghost use Rattle.launch_file.specs.Judged.{AllInRange, AreInRange, bases_of};
 ghost use Rattle.launch_file.specs.Judged.{size_judged, sizes_judged};
 ghost use Rattle.launch_file.specs.declared.refusal.LaunchNo.TheVariants.{Memory};
 
-use crate::json::named;
+use crate::lookup::named;
 use crate::refusal::{Key, LaunchNo};
 use lift_tree::program::Size;
 use serde_json::Value;

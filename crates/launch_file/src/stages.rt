@@ -19,15 +19,16 @@ ghost use Rattle.launch_file.specs.StagesShown.{count_of, given_in_order, keys_o
 ghost use Rattle.launch_file.specs.declared.refusal.LaunchNo.TheVariants.{Memory};
 
 use crate::file::{Ask, asks_in, work_items};
-use crate::json::{discard, object_at, pair_at};
 use crate::keys::schedule_at;
+use crate::lookup::{discard, object_at, pair_at};
+use crate::reading::value_of;
 use crate::refusal::{Key, LaunchNo};
 use crate::sizes::{bases_of, sizes_in};
 use crate::values::inputs_in;
 use kernel_tree::launches::Schedule;
 use lift_tree::program::Program;
 use lift_tree::value::Val;
-use serde_json::{Category, Value};
+use serde_json::Value;
 use size_arith::Sizes;
 use std::alloc::Global;
 
@@ -189,7 +190,6 @@ fn stages_of(
 /// over. Want of memory may come at any point.
 ///
 /// The inputs are those that typing takes, as for `read_launch`.
-#[tactic(auto, using(crate::proofs::InOrder::stages_file_is))]
 pub fn read_stages(
     alloc: Global,
     bytes: &[u8],
@@ -202,13 +202,8 @@ pub fn read_stages(
     ensures refused { IfErr result (λ e. e ≢ Memory
         → RefusesStages (program_of program.now) (map ask_of asks.now) bytes.now e) }
 {
-    match Value::from_slice(alloc, bytes) {
-        Ok(value) => {
-            let file = stages_of(alloc, &value, program, asks);
-            discard(value);
-            file
-        }
-        Err(error) if error.classify() == Category::Memory => Err(LaunchNo::Memory),
-        Err(_) => Err(LaunchNo::NotJson),
-    }
+    let value = value_of(alloc, program, bytes)?;
+    let file = stages_of(alloc, &value, program, asks);
+    discard(value);
+    file
 }

@@ -10,8 +10,8 @@ ghost use Rattle.launch_file.specs.Json.{word_in};
 ghost use Rattle.launch_file.specs.Judged.{input_judged, inputs_judged};
 ghost use Rattle.launch_file.specs.declared.refusal.LaunchNo.TheVariants.{Memory};
 
-use crate::json::{named, word};
 use crate::length::length_at;
+use crate::lookup::{named, word};
 use crate::refusal::{Key, LaunchNo};
 use lift_tree::input_type::InputType;
 use lift_tree::program::Input;

@@ -1,7 +1,9 @@
 -- Which terms can stand where.
 use Rattle.std.specs.Prelude.{Bool, true, false}
+use Rattle.lift_tree.specs.declared.term.Level.TheVariants.{Launch}
+use Rattle.lift_tree.specs.declared.term.Dimension.TheVariants.{X, Y}
 use Rattle.lift_ir.specs.Layouts.{IsInvertible}
-use Rattle.lift_ir.specs.Terms.{Global, GlobalRows, Sequential, PrivateMemory, Term, Bound, Source, Both, Project, Reshape, LetArray, LetElement, Map, Fold, Store, Copy}
+use Rattle.lift_ir.specs.Terms.{Over, Sequential, PrivateMemory, Term, Bound, Source, Both, Project, Reshape, LetArray, LetElement, Map, Fold, Store, Copy}
 
 -- a term that can stand in writing position (true), or as an argument (false), for one work-item
 abbrev pub Stands : {A : Type 0} → Bool → Term A → Type 0
@@ -24,13 +26,13 @@ Stands false _ = ⊥
 -- a map along a row of the launch, seen through layouts
 abbrev pub StandsAlongRow : {A : Type 0} → Term A → Type 0
 StandsAlongRow (Reshape y t) = IsInvertible y × StandsAlongRow t
-StandsAlongRow (Map Global n loads xs b) = Stands false xs × Stands true b
+StandsAlongRow (Map (Over Launch X) n loads xs b) = Stands false xs × Stands true b
 StandsAlongRow _ = ⊥
 
 -- a map over the launch, through layouts and lets of arrays
 abbrev pub StandsOverLaunch : {A : Type 0} → Term A → Type 0
 StandsOverLaunch (Reshape y t) = IsInvertible y × StandsOverLaunch t
 StandsOverLaunch (LetArray v b) = Stands false v × StandsOverLaunch b
-StandsOverLaunch (Map Global n loads xs b) = Stands false xs × Stands true b
-StandsOverLaunch (Map GlobalRows n loads xs b) = Stands false xs × StandsAlongRow b
+StandsOverLaunch (Map (Over Launch X) n loads xs b) = Stands false xs × Stands true b
+StandsOverLaunch (Map (Over Launch Y) n loads xs b) = Stands false xs × StandsAlongRow b
 StandsOverLaunch _ = ⊥

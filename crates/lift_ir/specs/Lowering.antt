@@ -13,8 +13,6 @@ use Rattle.lift_tree.specs.declared.term.BinaryForm.{BinaryForm}
 use Rattle.lift_tree.specs.declared.term.BinaryForm.TheVariants as binary
 use Rattle.lift_tree.specs.declared.term.MapKind.{MapKind}
 use Rattle.lift_tree.specs.declared.term.MapKind.TheVariants as map_kind
-use Rattle.lift_tree.specs.declared.term.Level.TheVariants.{Launch, Groups, Items}
-use Rattle.lift_tree.specs.declared.term.Dimension.TheVariants.{X, Y}
 use Rattle.lift_tree.specs.Tree as tree
 use Rattle.lift_tree.specs.Tree.{Tree}
 use Rattle.lift_tree.specs.Types as types
@@ -24,7 +22,7 @@ use Rattle.lift_tree.specs.WorkedOut.{product_of}
 use Rattle.lift_tree.specs.Annotations.{Annotation, One, Two, Three, type_in}
 use Rattle.lift_ir.specs.Types.{Ty, Scalar, PairOf, four}
 use Rattle.lift_ir.specs.Layouts.{Split, Join, Transpose}
-use Rattle.lift_ir.specs.Terms.{LoadSet, Skip, Take, TakeFour, Each, Kind, Global, WorkGroup, Local, GlobalRows, WorkGroupRows, LocalRows, Sequential, LocalMemory, PrivateMemory, Term, Literal, Bound, Source, Apply, ApplyNumber, ApplyLanes, DivideLanes, Select, Both, Project, Reshape, LetArray, LetElement, Map, Fold, Store, Copy}
+use Rattle.lift_ir.specs.Terms.{LoadSet, Skip, Take, TakeFour, Each, Kind, Over, Sequential, LocalMemory, PrivateMemory, Term, Literal, Bound, Source, Apply, ApplyNumber, ApplyLanes, DivideLanes, Select, Both, Project, Reshape, LetArray, LetElement, Map, Fold, Store, Copy}
 use Rattle.lift_ir.specs.AtLaunch.{ty_at, outer_of, layout_of}
 
 -- what a term stands for where it is: it is written, it is an argument, or an element is worked out
@@ -58,12 +56,7 @@ placed Element a t = t
 -- how a map is run; a plain one as a sequential one
 abbrev pub kind_of : MapKind → Kind
 kind_of map_kind.Plain = Sequential
-kind_of (map_kind.Over Launch X) = Global
-kind_of (map_kind.Over Launch Y) = GlobalRows
-kind_of (map_kind.Over Groups X) = WorkGroup
-kind_of (map_kind.Over Groups Y) = WorkGroupRows
-kind_of (map_kind.Over Items X) = Local
-kind_of (map_kind.Over Items Y) = LocalRows
+kind_of (map_kind.Over l d) = Over l d
 kind_of map_kind.Sequential = Sequential
 
 -- all scalars of an element of this type

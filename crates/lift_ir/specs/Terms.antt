@@ -3,6 +3,8 @@
 use Rattle.std.specs.Prelude.{◌≡◌, ℕ, zero, suc, ◌<◌, ◌^◌, Bool, true, false}
 use Rattle.scalar_ops.specs.declared.op.Op.{Op}
 use Rattle.scalar_ops.specs.declared.op.Op.TheVariants.{Lt, Eq}
+use Rattle.lift_tree.specs.declared.term.Level.{Level}
+use Rattle.lift_tree.specs.declared.term.Dimension.{Dimension}
 use Rattle.kernel_tree.specs.Formula.{divides}
 use Rattle.lift_ir.specs.Types.{Ty, Scalar, PairOf, ArrayOf, four, IsFour, IsElement, IsFlat, IsShort}
 use Rattle.lift_ir.specs.Layouts.{Layout, Reshapes, HasWordStep}
@@ -12,12 +14,11 @@ pub data LoadSet : Type 0 where
   Skip Take TakeFour : LoadSet
   Each : (left right : LoadSet) → LoadSet
 
--- how a map is run: over the launch, over its work-groups, over the work-items
--- of a group, or by one work-item; and the first three over the rows of these, around such a map
--- along a row
+-- how a map is run: over the launch's work-items, its work-groups or the work-items of a group,
+-- along a row or from row to row; or by one work-item
 pub data Kind : Type 0 where
-  Global WorkGroup Local Sequential : Kind
-  GlobalRows WorkGroupRows LocalRows : Kind
+  Over : (level : Level) → (dimension : Dimension) → Kind
+  Sequential : Kind
 
 -- where a copy lies: in a work-group's local memory, or in a work-item's private memory
 pub data Space : Type 0 where

@@ -8,8 +8,6 @@ use Rattle.lift_ir.specs.Terms as terms
 use Rattle.lift_ir.specs.Lowering.{Lowered, element_ty}
 use Rattle.lowering.specs.declared.term.Kind.{Kind}
 use Rattle.lowering.specs.declared.term.Kind.TheVariants as kind
-use Rattle.lift_tree.specs.declared.term.Level.TheVariants.{Launch, Groups, Items}
-use Rattle.lift_tree.specs.declared.term.Dimension.TheVariants.{X, Y}
 use Rattle.lowering.specs.declared.term.Space.{Space}
 use Rattle.lowering.specs.declared.term.Space.TheVariants as space
 use Rattle.lowering.specs.declared.term.LoadSet.{LoadSet}
@@ -22,12 +20,7 @@ use Rattle.lowering.specs.declared.term.Term as term
 
 -- how a map is run
 abbrev pub kind_of : Kind → terms.Kind
-kind_of (kind.Over Launch X) = terms.Global
-kind_of (kind.Over Launch Y) = terms.GlobalRows
-kind_of (kind.Over Groups X) = terms.WorkGroup
-kind_of (kind.Over Groups Y) = terms.WorkGroupRows
-kind_of (kind.Over Items X) = terms.Local
-kind_of (kind.Over Items Y) = terms.LocalRows
+kind_of (kind.Over l d) = terms.Over l d
 kind_of kind.Sequential = terms.Sequential
 
 -- where a copy lies

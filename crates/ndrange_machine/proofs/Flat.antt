@@ -326,16 +326,25 @@ module _ (x y : Inside) (j : ℕ) (p q : Place) (ch : Change) (at : slice_get x.
   pub count_on : length (items_of y) ≡ length (items_of x)
   count_on = length-items y ∙ places_long ∙ sym (length-items x)
 
--- the same lists, but for what a change of one item puts in them
-pub record Moved (x z : Inside) (j : ℕ) (p q : Place) (ch : Change) : Type 0 where
+-- what an item's place says of loops, where it is as it was and where another is put there
+pub inside_still : (xs : List Place) (j : ℕ) (p r : Place) → slice_get xs j ≡ Some p → slice_get xs j ≡ Some r → r.inside ≡ p.inside
+inside_still xs j p r at e = ap (λ (z : Place). z.inside) (some_is r p (sym e ∙ at))
+
+pub inside_set : (xs : List Place) (j : ℕ) (p q r : Place) → slice_get xs j ≡ Some p → slice_get (slice_set xs j q) j ≡ Some r → r.inside ≡ q.inside
+inside_set xs j p q r at e = ap (λ (z : Place). z.inside) (some_is r q (sym e ∙ set_same xs j q (get_within xs j p at)))
+
+-- the same lists, but for what a change of one item puts in them before it goes to its line
+pub record Moved (x z : Inside) (j line : ℕ) (p : Place) (ch : Change) : Type 0 where
   pub depth : z.depth ≡ x.depth
   pub variables : z.variables ≡ x.variables
   pub fours : z.fours ≡ x.fours
-  pub places : z.places.items ≡ x.places.items
-  pub moves : Moves x j p q ch z.turns.items z.words.items z.vectors.items
+  pub inside : ℕ
+  pub here : (r : Place) → slice_get z.places.items j ≡ Some r → r.inside ≡ inside
+  pub places : (q : Place) → slice_set z.places.items j q ≡ slice_set x.places.items j q
+  pub moves : Moves x j p (record { line = line; inside = inside }) ch z.turns.items z.words.items z.vectors.items
 
-pub moved_as : {z' : Inside} {inside' : ℕ} {ch' : Change} (x z : Inside) (j : ℕ) (p : Place) (line inside : ℕ) (ch : Change) → z ≡ z' → inside ≡ inside' → ch ≡ ch' → Moved x z' j p (record { line = line; inside = inside' }) ch' → Moved x z j p (record { line = line; inside = inside }) ch
-moved_as {z' = z'} {inside' = inside'} {ch' = ch'} x z j p line inside ch a b e moved =
-    subst (λ v. Moved x z j p (record { line = line; inside = inside }) v) (sym e)
-    (subst (λ n. Moved x z j p (record { line = line; inside = n }) ch') (sym b)
-    (subst (λ v. Moved x v j p (record { line = line; inside = inside' }) ch') (sym a) moved))
+pub moved_as : {z' : Inside} {p' : Place} {ch' : Change} (x z : Inside) (j line : ℕ) (p : Place) (ch : Change) → z ≡ z' → p ≡ p' → ch ≡ ch' → Moved x z' j line p' ch' → Moved x z j line p ch
+moved_as {z' = z'} {p' = p'} {ch' = ch'} x z j line p ch a b e moved =
+    subst (λ v. Moved x z j line p v) (sym e)
+    (subst (λ r. Moved x z j line r ch') (sym b)
+    (subst (λ v. Moved x v j line p' ch') (sym a) moved))

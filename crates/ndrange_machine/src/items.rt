@@ -223,8 +223,8 @@ impl Items {
             then option_map (λ it. changed it change line) (slice_get self.old i)
             else slice_get self.old i) }
     {
-        let inside = self.places[item as usize].inside;
-        let inside = match change {
+        let at = item as usize;
+        match change {
             Change::Sets(variable, word) => {
                 put(
                     &mut self.words,
@@ -233,30 +233,30 @@ impl Items {
                     variable as usize,
                     word,
                 );
-                inside
             }
             Change::SetsFour(variable, four) => {
                 put(&mut self.vectors, self.fours, item, variable as usize, four);
-                inside
             }
             Change::Begins(turn) => {
+                let inside = self.places[at].inside;
                 if inside < self.depth {
                     put(&mut self.turns, self.depth, item, inside, turn);
-                    inside + 1
-                } else {
-                    inside
+                    self.places[at].inside = inside + 1;
                 }
             }
             Change::Repeats(turn) => {
+                let inside = self.places[at].inside;
                 if 0 < inside {
                     put(&mut self.turns, self.depth, item, inside - 1, turn);
                 }
-                inside
             }
-            Change::Leaves => inside.saturating_sub(1),
-            Change::Keeps => inside,
-        };
-        self.places[item as usize] = Place { line, inside };
+            Change::Leaves => {
+                let inside = self.places[at].inside;
+                self.places[at].inside = inside.saturating_sub(1);
+            }
+            Change::Keeps => {}
+        }
+        self.places[at].line = line;
     }
 
     // The turns of the loops around an item.

@@ -7,9 +7,10 @@ use Rattle.lift_tree.specs.Annotations.{Annotation, annotation_of, type_in}
 use Rattle.lift_tree.specs.Tree.{Tree, tree_of}
 use Rattle.lift_tree.specs.Typing.{Declared}
 use Rattle.lift_tree.specs.declared.term.Dimension.{Dimension}
+use Rattle.lift_tree.specs.declared.term.Dimension.TheVariants.{X, Y}
 use Rattle.kernel_tree.specs.Launch.{Launch, IsWhole}
 use Rattle.lift_ir.specs.AtLaunch.{length_at}
-use Rattle.lift_ir.specs.Owner.{owner, column_owner, row_owner}
+use Rattle.lift_ir.specs.Owner.{owner, owner_along}
 use Rattle.lift_ir.specs.Types.{size}
 use Rattle.lift_ir.proofs.Owner.{owner_below}
 use Rattle.lift_ir.proofs.Values.{shape_is}
@@ -21,7 +22,7 @@ use Rattle.printed_form.specs.Programs.{cell_owner, IsLaunchOf}
 use Rattle.launch_lengths.specs.Bases.{bases_of}
 use Rattle.launch_lengths.specs.Laws.{BasesComeBack}
 use Rattle.output_owner.specs.Outputs.{IsLegalFor, cell_count}
-use Rattle.output_owner.specs.Owners.{owner_along, position, written}
+use Rattle.output_owner.specs.Owners.{position, written}
 use Rattle.output_owner.specs.Written.{IsNumber, IsScalarOf}
 
 module _ (back : BasesComeBack) (lowered : LegalTermsCanBeLowered) (nests : LegalNestsAreUnbroken) (d : Declared) (l : Lowered) (launch : Launch) (bases : List ℕ) (cell : ℕ) (is : IsLegalFor d l) (local : Option (ℕ × ℕ)) (here : IsLaunchOf d (asks_of local (tree_of l.term)) bases (tree_of l.term) (annotation_of l.types) launch) where
@@ -77,7 +78,7 @@ module _ (back : BasesComeBack) (lowered : LegalTermsCanBeLowered) (nests : Lega
 
   -- the item in a column and in a row, in 32 bits
   pub item_is : (column row : ℕ) → IsWhole launch → 0 < launch.global.0 → 0 < launch.global.1
-      → column ≡ column_owner (length_at bases) launch (written l.names term types) scalar → row ≡ row_owner (length_at bases) launch (written l.names term types) scalar
+      → column ≡ owner_along X (length_at bases) launch (written l.names term types) scalar → row ≡ owner_along Y (length_at bases) launch (written l.names term types) scalar
       → (column + row * launch.global.0 % 4294967296) % 4294967296 ≡ owner (length_at bases) launch (written l.names term types) scalar
   item_is column row whole some rows h k =
       let is : column + row * launch.global.0 ≡ owner (length_at bases) launch (written l.names term types) scalar = ap₂ (λ x y. x + y * launch.global.0) h k in

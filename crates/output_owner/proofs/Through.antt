@@ -25,13 +25,14 @@ use Rattle.lift_tree.specs.Meaning.{product_at}
 use Rattle.lift_tree.specs.Typing.{constant}
 use Rattle.lift_tree.specs.WorkedOut.{product_of}
 use Rattle.lift_tree.proofs.Sizes.{product_value, value-of_monomial}
+use Rattle.lift_tree.specs.declared.term.Level.TheVariants as level
 use Rattle.lift_ir.specs.AtLaunch.{inner_of, length_at, natural, ty_at, outer_of}
 use Rattle.lift_ir.specs.Layouts.{operand_position, Reshapes}
 use Rattle.lift_ir.specs.Layouts as layouts
 use Rattle.lift_ir.specs.Lowering as ir
 use Rattle.lift_ir.specs.Lowering.{Lowered, Written, kind_of, lower, element_ty, value_place}
-use Rattle.lift_ir.specs.Owner.{local_owner, local_row_owner, column_owner, row_owner}
-use Rattle.lift_ir.specs.Terms.{Kind, Global, WorkGroup, Local, Sequential, GlobalRows, WorkGroupRows, LocalRows, LoadSet, Literal, Reshape, Store, LetArray, LetElement}
+use Rattle.lift_ir.specs.Owner.{local_along, owner_along}
+use Rattle.lift_ir.specs.Terms.{Kind, Over, Sequential, LoadSet, Literal, Reshape, Store, LetArray, LetElement}
 use Rattle.lift_ir.specs.Terms as terms
 use Rattle.lift_ir.specs.Types as shapes
 use Rattle.lift_ir.specs.Types.{Ty, size, unflat}
@@ -41,7 +42,7 @@ use Rattle.lift_ir.proofs.Positions as positions
 use Rattle.lift_ir.proofs.AtLaunch.{join_reshapes, scalar_reshapes, split_reshapes, stride_lengths, Strides}
 use Rattle.launch_lengths.specs.Bases.{bases_of}
 use Rattle.output_owner.specs.declared.walk.OnTop.{OnTop}
-use Rattle.output_owner.specs.Owners.{owner_along, local_along, HaveOneOwner, IsOfNone, IsOfTop, map_over, position, written}
+use Rattle.output_owner.specs.Owners.{HaveOneOwner, IsOfNone, IsOfTop, map_over, position, written}
 use Rattle.output_owner.specs.Numbers.{HasStep, IsOfComponent, IsStepOf, moved, operand_number, reversed, strided, transposed, turned}
 use Rattle.output_owner.specs.Written.{IsScalarOf, IsWritten}
 use Rattle.output_owner.proofs.Legal.{below_layout, below_let, below_map, no_pad, no_slide, no_vectors, operand_formed}
@@ -116,8 +117,8 @@ stride_position num a c p r e k ea ec hp hr low =
 -- ---- of one owner
 
 -- told in both dimensions
-pub told : {bases : List ℕ} {t : Lowered} {q : List ℕ} {u : Lowered} {p : List ℕ} → ((l : Launch) → column_owner (length_at bases) l t q ≡ column_owner (length_at bases) l u p) → ((l : Launch) → row_owner (length_at bases) l t q ≡ row_owner (length_at bases) l u p)
-    → ((l : Launch) → local_owner (length_at bases) l t q ≡ local_owner (length_at bases) l u p) → ((l : Launch) → local_row_owner (length_at bases) l t q ≡ local_row_owner (length_at bases) l u p) → HaveOneOwner bases t q u p
+told : {bases : List ℕ} {t : Lowered} {q : List ℕ} {u : Lowered} {p : List ℕ} → ((l : Launch) → owner_along X (length_at bases) l t q ≡ owner_along X (length_at bases) l u p) → ((l : Launch) → owner_along Y (length_at bases) l t q ≡ owner_along Y (length_at bases) l u p)
+    → ((l : Launch) → local_along X (length_at bases) l t q ≡ local_along X (length_at bases) l u p) → ((l : Launch) → local_along Y (length_at bases) l t q ≡ local_along Y (length_at bases) l u p) → HaveOneOwner bases t q u p
 told {bases} {t} {q} {u} {p} column row place place_row = record { item = item; local = local }
   where
     item : (d : Dimension) (l : Launch) → owner_along d (length_at bases) l t q ≡ owner_along d (length_at bases) l u p
@@ -129,20 +130,20 @@ told {bases} {t} {q} {u} {p} column row place place_row = record { item = item; 
     local Y l = place_row l
 
 pub through_layout : (bases : List ℕ) (y : layouts.Layout (List Monomial)) (t : Lowered) (q p : List ℕ) → operand_position (length_at bases) y q ≡ p → HaveOneOwner bases (Reshape y t) q t p
-through_layout bases y t q p e = told (λ l. ap (column_owner (length_at bases) l t) e) (λ l. ap (row_owner (length_at bases) l t) e) (λ l. ap (local_owner (length_at bases) l t) e) (λ l. ap (local_row_owner (length_at bases) l t) e)
+through_layout bases y t q p e = record { item = λ d l. ap (owner_along d (length_at bases) l t) e; local = λ d l. ap (local_along d (length_at bases) l t) e }
 
 pub after : (bases : List ℕ) (t u v : Lowered) (q p r : List ℕ) → HaveOneOwner bases t q u p → HaveOneOwner bases u p v r → HaveOneOwner bases t q v r
 after bases t u v q p r h k = record { item = λ d l. h.item d l ∙ k.item d l; local = λ d l. h.local d l ∙ k.local d l }
 
 -- a map's owner is told by its kind, its turn and its body
 pub of_map : (bases : List ℕ) (k : Kind) (n : List Monomial) (loads : LoadSet) (xs b : Lowered) (i : ℕ) (q : List ℕ) → HaveOneOwner bases (terms.Map k n loads xs b) (i ∷ q) (map_over k b) (i ∷ q)
-of_map bases Global n loads xs b i q = told (λ l. refl) (λ l. refl) (λ l. refl) (λ l. refl)
-of_map bases WorkGroup n loads xs b i q = told (λ l. refl) (λ l. refl) (λ l. refl) (λ l. refl)
-of_map bases Local n loads xs b i q = told (λ l. refl) (λ l. refl) (λ l. refl) (λ l. refl)
+of_map bases (Over level.Launch X) n loads xs b i q = told (λ l. refl) (λ l. refl) (λ l. refl) (λ l. refl)
+of_map bases (Over level.Groups X) n loads xs b i q = told (λ l. refl) (λ l. refl) (λ l. refl) (λ l. refl)
+of_map bases (Over level.Items X) n loads xs b i q = told (λ l. refl) (λ l. refl) (λ l. refl) (λ l. refl)
 of_map bases Sequential n loads xs b i q = told (λ l. refl) (λ l. refl) (λ l. refl) (λ l. refl)
-of_map bases GlobalRows n loads xs b i q = told (λ l. refl) (λ l. refl) (λ l. refl) (λ l. refl)
-of_map bases WorkGroupRows n loads xs b i q = told (λ l. refl) (λ l. refl) (λ l. refl) (λ l. refl)
-of_map bases LocalRows n loads xs b i q = told (λ l. refl) (λ l. refl) (λ l. refl) (λ l. refl)
+of_map bases (Over level.Launch Y) n loads xs b i q = told (λ l. refl) (λ l. refl) (λ l. refl) (λ l. refl)
+of_map bases (Over level.Groups Y) n loads xs b i q = told (λ l. refl) (λ l. refl) (λ l. refl) (λ l. refl)
+of_map bases (Over level.Items Y) n loads xs b i q = told (λ l. refl) (λ l. refl) (λ l. refl) (λ l. refl)
 
 -- a let, whose whole type and whose value's are tested so
 abbrev let_tested : (names : List Name) (v b : Tree) (a : PlainTy) (n m : Annotation) (whole value : Bool) → Lowered
@@ -152,15 +153,15 @@ let_tested names v b a n m x y =
 
 pub of_let : (names : List Name) (bases : List ℕ) (v b : Tree) (a : PlainTy) (n m : Annotation) (q : List ℕ) → is_element a ≡ false → is_element (type_in n) ≡ false → HaveOneOwner bases (written names (Let v b) (Two a n m)) q (written names b m) q
 of_let names bases v b a n m q e f =
-    subst (λ (t : Lowered). HaveOneOwner bases t q (written names b m) q) (sym (written_let names v b a n m (told_ir false a e) (told_ir false (type_in n) f))) (told (λ l. refl) (λ l. refl) (λ l. refl) (λ l. refl))
+    subst (λ (t : Lowered). HaveOneOwner bases t q (written names b m) q) (sym (written_let names v b a n m (told_ir false a e) (told_ir false (type_in n) f))) (record { item = λ d l. refl; local = λ d l. refl })
 
 pub of_element : (names : List Name) (bases : List ℕ) (v b : Tree) (a : PlainTy) (n m : Annotation) (q : List ℕ) → is_element a ≡ true → HaveOneOwner bases (written names (Let v b) (Two a n m)) q (Literal 0) []
-of_element names bases v b a n m q e = subst (λ (x : Bool). HaveOneOwner bases (let_tested names v b a n m x (ir.is_element (type_in n))) q (Literal 0) []) (sym (told_ir true a e)) (told (λ l. refl) (λ l. refl) (λ l. refl) (λ l. refl))
+of_element names bases v b a n m q e = subst (λ (x : Bool). HaveOneOwner bases (let_tested names v b a n m x (ir.is_element (type_in n))) q (Literal 0) []) (sym (told_ir true a e)) (record { item = λ d l. refl; local = λ d l. refl })
 
 pub of_bound_element : (names : List Name) (bases : List ℕ) (v b : Tree) (a : PlainTy) (n m : Annotation) (q : List ℕ) → is_element a ≡ false → is_element (type_in n) ≡ true → HaveOneOwner bases (written names (Let v b) (Two a n m)) q (Literal 0) []
 of_bound_element names bases v b a n m q e f =
     subst (λ (x : Bool). HaveOneOwner bases (let_tested names v b a n m x (ir.is_element (type_in n))) q (Literal 0) []) (sym (told_ir false a e))
-    (subst (λ (y : Bool). HaveOneOwner bases (let_tested names v b a n m false y) q (Literal 0) []) (sym (told_ir true (type_in n) f)) (told (λ l. refl) (λ l. refl) (λ l. refl) (λ l. refl)))
+    (subst (λ (y : Bool). HaveOneOwner bases (let_tested names v b a n m false y) q (Literal 0) []) (sym (told_ir true (type_in n) f)) (record { item = λ d l. refl; local = λ d l. refl }))
 
 -- ---- one step
 
@@ -361,7 +362,7 @@ module _ (names : List Name) (sizes : List ℕ) where
         let within : moved q p (size e) k < size (shapes.ArrayOf (p * q) e) = (let b = v.below in omega arith) in
         record {
           scalar = stays (Stride fs) t a n k s j size_of_stride (subst (λ (z : Ty). j < size z) (sym lengths.operand) (subst (λ z. z < size (shapes.ArrayOf (p * q) e)) (sym number_is) within));
-          owner = told (λ l. ap (column_owner (length_at bases) l (written names t n)) is) (λ l. ap (row_owner (length_at bases) l (written names t n)) is) (λ l. ap (local_owner (length_at bases) l (written names t n)) is) (λ l. ap (local_row_owner (length_at bases) l (written names t n)) is);
+          owner = record { item = λ d l. ap (owner_along d (length_at bases) l (written names t n)) is; local = λ d l. ap (local_along d (length_at bases) l (written names t n)) is };
         }
 
   -- any of them
@@ -480,16 +481,16 @@ module _ (names : List Name) (sizes : List ℕ) where
   is_no_layout f (inr (inr (inr (inr (inr (inr (inr (inr e)))))))) = subst IsNoLayout (sym e) tt
 
   pub of_no_layout : (f : UnaryForm) (t : Tree) (a : PlainTy) (n : Annotation) (k : ℕ) → IsNoLayout f → NoneOn k (Unary f t) (One a n)
-  of_no_layout (Div x) t a n k other s = told (λ l. refl) (λ l. refl) (λ l. refl) (λ l. refl)
-  of_no_layout (Rem x) t a n k other s = told (λ l. refl) (λ l. refl) (λ l. refl) (λ l. refl)
-  of_no_layout First t a n k other s = told (λ l. refl) (λ l. refl) (λ l. refl) (λ l. refl)
-  of_no_layout Second t a n k other s = told (λ l. refl) (λ l. refl) (λ l. refl) (λ l. refl)
+  of_no_layout (Div x) t a n k other s = record { item = λ d l. refl; local = λ d l. refl }
+  of_no_layout (Rem x) t a n k other s = record { item = λ d l. refl; local = λ d l. refl }
+  of_no_layout First t a n k other s = record { item = λ d l. refl; local = λ d l. refl }
+  of_no_layout Second t a n k other s = record { item = λ d l. refl; local = λ d l. refl }
   of_no_layout (Layout l) t a n k other s = absurd other
   of_no_layout (Slide x y) t a n k other s = absurd (no_slide names x y t a n s.term)
   of_no_layout (Pad x y) t a n k other s = absurd (no_pad names x y t a n s.term)
-  of_no_layout ToLocal t a n k other s = told (λ l. refl) (λ l. refl) (λ l. refl) (λ l. refl)
-  of_no_layout ToPrivate t a n k other s = told (λ l. refl) (λ l. refl) (λ l. refl) (λ l. refl)
-  of_no_layout Then t a n k other s = told (λ l. refl) (λ l. refl) (λ l. refl) (λ l. refl)
+  of_no_layout ToLocal t a n k other s = record { item = λ d l. refl; local = λ d l. refl }
+  of_no_layout ToPrivate t a n k other s = record { item = λ d l. refl; local = λ d l. refl }
+  of_no_layout Then t a n k other s = record { item = λ d l. refl; local = λ d l. refl }
 
   -- ---- the map on top, whose rows have so many scalars
 

@@ -8,8 +8,8 @@ use Rattle.lift_tree.specs.Annotations.{Annotation, annotation_of, type_in}
 use Rattle.lift_tree.specs.Tree.{Tree, tree_of}
 use Rattle.lift_ir.specs.AtLaunch.{length_at, ty_at}
 use Rattle.lift_ir.specs.Lowering.{Lowered, Written, kind_of, lower}
-use Rattle.lift_ir.specs.Owner.{local_owner, local_row_owner, column_owner, row_owner}
-use Rattle.lift_ir.specs.Terms.{Kind, Term, Literal, Map, Skip}
+pub use Rattle.lift_ir.specs.Owner.{local_along, owner_along}
+use Rattle.lift_ir.specs.Terms.{Kind, Literal, Map, Skip}
 use Rattle.lift_ir.specs.Types.{unflat}
 use Rattle.output_owner.specs.declared.walk.OnTop.{OnTop}
 
@@ -17,16 +17,6 @@ use Rattle.output_owner.specs.declared.walk.OnTop.{OnTop}
 abbrev pub along : Dimension → ℕ × ℕ → ℕ
 along X sizes = sizes.0
 along Y sizes = sizes.1
-
--- in which column of the launch the owner of the scalar at a position is, or in which row
-abbrev pub owner_along : Dimension → {A : Type 0} → (A → ℕ) → Launch → Term A → List ℕ → ℕ
-owner_along X = column_owner
-owner_along Y = row_owner
-
--- and of its group
-abbrev pub local_along : Dimension → {A : Type 0} → (A → ℕ) → Launch → Term A → List ℕ → ℕ
-local_along X = local_owner
-local_along Y = local_row_owner
 
 -- two scalars have one owner, and are of one item of a group, at every launch
 pub record HaveOneOwner (bases : List ℕ) (t : Lowered) (q : List ℕ) (u : Lowered)

@@ -1,9 +1,11 @@
 -- What a term stands as, it stands as in one way.
 use Rattle.std.proofs.Common.{Bool, true, false}
 use Rattle.std.specs.Coded.{×_prop, Unit-prop}
+use Rattle.lift_tree.specs.declared.term.Level.TheVariants.{Groups, Items}
+use Rattle.lift_tree.specs.declared.term.Dimension.TheVariants.{X, Y}
 use Rattle.lift_ir.specs.Layouts.{IsInvertible, Layout, Slide, Pad}
 use Rattle.lift_ir.specs.Forms.{Stands}
-use Rattle.lift_ir.specs.Terms.{Term, Literal, Bound, Source, Apply, ApplyNumber, ApplyLanes, DivideLanes, Select, Both, Project, Reshape, LetArray, LetElement, Map, Fold, Store, Copy, Global, WorkGroup, Local, Sequential, GlobalRows, WorkGroupRows, LocalRows, LocalMemory, PrivateMemory}
+use Rattle.lift_ir.specs.Terms.{Term, Literal, Bound, Source, Apply, ApplyNumber, ApplyLanes, DivideLanes, Select, Both, Project, Reshape, LetArray, LetElement, Map, Fold, Store, Copy, Over, Sequential, LocalMemory, PrivateMemory}
 use Rattle.group_form.specs.Forms.{IsOfInputs, StandsInGroup, StandsOverGroups}
 use Rattle.group_form.specs.GridTerms.{StandsAlongGroups, StandsAlongRow, StandsInGrid, StandsOverGrid}
 
@@ -29,13 +31,8 @@ stands_once true (Project s a) = never
 stands_once true (Reshape y t) = ×_prop (invertible_once y) (stands_once true t)
 stands_once true (LetArray v b) = ×_prop (stands_once false v) (stands_once true b)
 stands_once true (LetElement ty v b) = stands_once true b
-stands_once true (Map Global n loads xs b) = never
-stands_once true (Map WorkGroup n loads xs b) = never
-stands_once true (Map Local n loads xs b) = never
 stands_once true (Map Sequential n loads xs b) = ×_prop (stands_once false xs) (stands_once true b)
-stands_once true (Map GlobalRows n loads xs b) = never
-stands_once true (Map WorkGroupRows n loads xs b) = never
-stands_once true (Map LocalRows n loads xs b) = never
+stands_once true (Map (Over _ _) n loads xs b) = never
 stands_once true (Fold n loads ty xs s b) = stands_once false xs
 stands_once true (Store ty a) = Unit-prop
 stands_once true (Copy space ty a) = never
@@ -72,13 +69,9 @@ in_group_once true (Project s a) = never
 in_group_once true (Reshape y t) = ×_prop (invertible_once y) (in_group_once true t)
 in_group_once true (LetArray v b) = ×_prop (in_group_once false v) (in_group_once true b)
 in_group_once true (LetElement ty v b) = never
-in_group_once true (Map Global n loads xs b) = never
-in_group_once true (Map WorkGroup n loads xs b) = never
-in_group_once true (Map Local n loads xs b) = ×_prop (in_group_once false xs) (stands_once true b)
+in_group_once true (Map (Over Items X) n loads xs b) = ×_prop (in_group_once false xs) (stands_once true b)
 in_group_once true (Map Sequential n loads xs b) = never
-in_group_once true (Map GlobalRows n loads xs b) = never
-in_group_once true (Map WorkGroupRows n loads xs b) = never
-in_group_once true (Map LocalRows n loads xs b) = never
+in_group_once true (Map (Over _ _) n loads xs b) = never
 in_group_once true (Fold n loads ty xs s b) = never
 in_group_once true (Store ty a) = never
 in_group_once true (Copy space ty a) = never
@@ -136,26 +129,22 @@ over_groups_once (Project s a) = never
 over_groups_once (Reshape y t) = ×_prop (invertible_once y) (over_groups_once t)
 over_groups_once (LetArray v b) = ×_prop (of_inputs_once v) (over_groups_once b)
 over_groups_once (LetElement ty v b) = never
-over_groups_once (Map Global n loads xs b) = never
-over_groups_once (Map WorkGroup n loads xs b) = ×_prop (of_inputs_once xs) (in_group_once true b)
-over_groups_once (Map Local n loads xs b) = never
+over_groups_once (Map (Over Groups X) n loads xs b) = ×_prop (of_inputs_once xs) (in_group_once true b)
 over_groups_once (Map Sequential n loads xs b) = never
-over_groups_once (Map GlobalRows n loads xs b) = never
-over_groups_once (Map WorkGroupRows n loads xs b) = never
-over_groups_once (Map LocalRows n loads xs b) = never
+over_groups_once (Map (Over _ _) n loads xs b) = never
 over_groups_once (Fold n loads ty xs s b) = never
 over_groups_once (Store ty a) = never
 over_groups_once (Copy space ty a) = never
 
 along_row_once : {A : Type 0} → (t : Term A) → IsProp (StandsAlongRow t)
 along_row_once (Reshape y t) = ×_prop (invertible_once y) (along_row_once t)
-along_row_once (Map Local n loads xs b) = ×_prop (of_inputs_once xs) (stands_once true b)
+along_row_once (Map (Over Items X) n loads xs b) = ×_prop (of_inputs_once xs) (stands_once true b)
 along_row_once _ = never
 
 in_grid_once : {A : Type 0} → (w : Bool) (t : Term A) → IsProp (StandsInGrid w t)
 in_grid_once true (Reshape y t) = ×_prop (invertible_once y) (in_grid_once true t)
 in_grid_once true (LetArray v b) = ×_prop (in_grid_once false v) (in_grid_once true b)
-in_grid_once true (Map LocalRows n loads xs b) = ×_prop (in_grid_once false xs) (along_row_once b)
+in_grid_once true (Map (Over Items Y) n loads xs b) = ×_prop (in_grid_once false xs) (along_row_once b)
 in_grid_once true _ = never
 in_grid_once false (Bound v) = Unit-prop
 in_grid_once false (Source v) = Unit-prop
@@ -168,11 +157,11 @@ in_grid_once false _ = never
 
 along_groups_once : {A : Type 0} → (t : Term A) → IsProp (StandsAlongGroups t)
 along_groups_once (Reshape y t) = ×_prop (invertible_once y) (along_groups_once t)
-along_groups_once (Map WorkGroup n loads xs b) = ×_prop (of_inputs_once xs) (in_grid_once true b)
+along_groups_once (Map (Over Groups X) n loads xs b) = ×_prop (of_inputs_once xs) (in_grid_once true b)
 along_groups_once _ = never
 
 pub over_grid_once : {A : Type 0} → (t : Term A) → IsProp (StandsOverGrid t)
 over_grid_once (Reshape y t) = ×_prop (invertible_once y) (over_grid_once t)
 over_grid_once (LetArray v b) = ×_prop (of_inputs_once v) (over_grid_once b)
-over_grid_once (Map WorkGroupRows n loads xs b) = ×_prop (of_inputs_once xs) (along_groups_once b)
+over_grid_once (Map (Over Groups Y) n loads xs b) = ×_prop (of_inputs_once xs) (along_groups_once b)
 over_grid_once _ = never

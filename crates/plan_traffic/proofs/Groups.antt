@@ -3,11 +3,13 @@ use Rattle.std.proofs.Common.{◌≡◌, ℕ, zero, suc, ◌+◌, ◌-◌, ◌*�
 use Rattle.std.specs.Prelude.{min}
 use Rattle.std.proofs.Math.Nat.{mul-le-mul_left, mul-le-mul_right}
 use Rattle.std.proofs.lemmas.Nat.{div-add-mod'}
+use Rattle.lift_tree.specs.declared.term.Level.TheVariants as level
+use Rattle.lift_tree.specs.declared.term.Dimension.TheVariants.{X, Y}
 use Rattle.kernel_tree.specs.Formula.{Ids}
 use Rattle.kernel_tree.specs.Launch.{Launch, IsWhole, item_count, groups_across, groups_down, group_count, group_of, first_item, ids_of, column_of, row_of}
 use Rattle.kernel_tree.specs.Numbering.{LaidOut}
 use Rattle.kernel_tree.proofs.Grouping.{laid_out, row_below}
-use Rattle.lift_ir.specs.Terms.{Global, WorkGroup, Local, GlobalRows, WorkGroupRows, LocalRows, Sequential, Term, Reshape, LetArray, Map}
+use Rattle.lift_ir.specs.Terms.{Over, Term, Reshape, LetArray, Map}
 use Rattle.term_traffic.specs.Traffic.{turns_of, row_turns, group_turns}
 
 factor_positive : (n m : ℕ) → 0 < n * m → 0 < n
@@ -49,34 +51,23 @@ pub record AreTogether (i j : Ids) : Type 0 where
   pub row : i.y.group_id ≡ j.y.group_id
   pub rows : i.y.group_count ≡ j.y.group_count
 
-turns_along : (i j : Ids) (n : ℕ) → AreTogether i j → turns_of i WorkGroup n ≡ turns_of j WorkGroup n
+turns_along : (i j : Ids) (n : ℕ) → AreTogether i j → turns_of i (Over level.Groups X) n ≡ turns_of j (Over level.Groups X) n
 turns_along i j n h = ap (λ x. (n - x) / i.x.group_count + min 1 ((n - x) % i.x.group_count)) h.column ∙ ap (λ x. (n - j.x.group_id) / x + min 1 ((n - j.x.group_id) % x)) h.columns
 
-turns_down : (i j : Ids) (n : ℕ) → AreTogether i j → turns_of i WorkGroupRows n ≡ turns_of j WorkGroupRows n
+turns_down : (i j : Ids) (n : ℕ) → AreTogether i j → turns_of i (Over level.Groups Y) n ≡ turns_of j (Over level.Groups Y) n
 turns_down i j n h = ap (λ x. (n - x) / i.y.group_count + min 1 ((n - x) % i.y.group_count)) h.row ∙ ap (λ x. (n - j.y.group_id) / x + min 1 ((n - j.y.group_id) % x)) h.rows
 
 module _ {A : Type 0} (num : A → ℕ) (i j : Ids) (h : AreTogether i j) where
   same_along : (t : Term A) → row_turns num i t ≡ row_turns num j t
   same_along (Reshape y t) = same_along t
-  same_along (Map WorkGroup n loads xs b) = turns_along i j (num n) h
-  same_along (Map Global n loads xs b) = refl
-  same_along (Map Local n loads xs b) = refl
-  same_along (Map GlobalRows n loads xs b) = refl
-  same_along (Map WorkGroupRows n loads xs b) = refl
-  same_along (Map LocalRows n loads xs b) = refl
-  same_along (Map Sequential n loads xs b) = refl
+  same_along (Map (Over level.Groups X) n loads xs b) = turns_along i j (num n) h
   same_along _ = refl
 
   same_turns : (t : Term A) → group_turns num i t ≡ group_turns num j t
   same_turns (Reshape y t) = same_turns t
   same_turns (LetArray v b) = same_turns b
-  same_turns (Map WorkGroup n loads xs b) = turns_along i j (num n) h
-  same_turns (Map WorkGroupRows n loads xs b) = ap (λ z. z * row_turns num i b) (turns_down i j (num n) h) ∙ ap (λ z. turns_of j WorkGroupRows (num n) * z) (same_along b)
-  same_turns (Map Global n loads xs b) = refl
-  same_turns (Map Local n loads xs b) = refl
-  same_turns (Map GlobalRows n loads xs b) = refl
-  same_turns (Map LocalRows n loads xs b) = refl
-  same_turns (Map Sequential n loads xs b) = refl
+  same_turns (Map (Over level.Groups X) n loads xs b) = turns_along i j (num n) h
+  same_turns (Map (Over level.Groups Y) n loads xs b) = ap (λ z. z * row_turns num i b) (turns_down i j (num n) h) ∙ ap (λ z. turns_of j (Over level.Groups Y) (num n) * z) (same_along b)
   same_turns _ = refl
 
 -- so all items of a group take the turns of its first

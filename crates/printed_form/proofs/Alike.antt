@@ -1,10 +1,12 @@
 -- Any two codes printed for one term are alike.
 use Rattle.std.proofs.Common.{◌≡◌, ℕ, ◌+◌, ◌*◌, ◌<◌, Bool, true, false, List, [], ◌∷◌, ◌++◌, Option, Some, refl, sym, ap, ◌∙◌, subst, arith}
+use Rattle.lift_tree.specs.declared.term.Level.TheVariants as level
+use Rattle.lift_tree.specs.declared.term.Dimension.TheVariants.{X, Y}
 use Rattle.kernel_tree.specs.Formula.{Formula, Lanes}
 use Rattle.kernel_tree.specs.Code.{Array, Private, Code, End, Performs, Assigns, Loads, Stores, AssignsFour, LoadsFour, StoresFour, Loops}
 use Rattle.kernel_tree.specs.Launch.{Launch}
 use Rattle.lift_ir.specs.Types.{Ty, Scalar, PairOf, ArrayOf}
-use Rattle.lift_ir.specs.Terms.{PrivateMemory, LoadSet, Skip, Take, TakeFour, Each, Kind, Global, GlobalRows, Sequential, Term, Literal, Bound, Source, Apply, ApplyNumber, ApplyLanes, DivideLanes, Select, Both, Project, Reshape, LetArray, LetElement, Map, Fold, Store, Copy, push}
+use Rattle.lift_ir.specs.Terms.{PrivateMemory, LoadSet, Skip, Take, TakeFour, Each, Kind, Over, Sequential, Term, Literal, Bound, Source, Apply, ApplyNumber, ApplyLanes, DivideLanes, Select, Both, Project, Reshape, LetArray, LetElement, Map, Fold, Store, Copy, push}
 use Rattle.lift_ir.specs.Scalars.{at_index}
 use Rattle.printed_form.specs.Marks.{Mark, Nowhere, Register, Lane, Spot, Marks, laid_in, held_marks, loaded_marks}
 use Rattle.lift_ir.specs.Layouts.{result_position}
@@ -142,10 +144,10 @@ module _ (grouped : Bool) (l : Launch) (item : ℕ) (ins : ℕ → Marks) where
 
   alike_along : {A : Type 0} (num : A → ℕ) (t : Term A) (ts : List ℕ) (env : ℕ → Marks) (p : ℕ) (n : Count) (w : Marks) (a b c d : Code) → IsAlongRow l item ins num ts env p n t w a c → IsAlongRow l item ins num ts env p n t w b d → Alike grouped l item ts c d → Alike grouped l item ts a b
   alike_along num (Reshape m t) ts env p n w a b c d x y h = alike_along num t ts env p n (λ cs q. w cs (result_position num m q)) a b c d x.1 y.1 h
-  alike_along num (Map Global len loads xs t) ts env p n w a b c d x y h =
+  alike_along num (Map (Over level.Launch X) len loads xs t) ts env p n w a b c d x y h =
       let e = argument_marks l ins num env p xs in
       alike_gathered num xs ts env p n a b x.0 y.0 x.1 y.1
-      (alike_loop ts Global (num len) _ x.0 y.0 c d x.2 y.2
+      (alike_loop ts (Over level.Launch X) (num len) _ x.0 y.0 c d x.2 y.2
       (λ i lt own u v r s. alike_loaded (ts ++ i ∷ []) loads (at_index i e) (more n (variable_count xs)) u v r.0 s.0 r.1 s.1
       (alike_written num t (ts ++ i ∷ []) (push (loaded_marks loads (at_index i e) (more n (variable_count xs))) env) (p + private_count xs) (more (more n (variable_count xs)) (load_count loads)) (at_index i w) r.0 s.0 End End r.2 s.2 tt)) h)
   alike_along num _ ts env p n w a b c d x y h = absurd x
@@ -153,11 +155,11 @@ module _ (grouped : Bool) (l : Launch) (item : ℕ) (ins : ℕ → Marks) where
   pub alike_over_launch : {A : Type 0} (num : A → ℕ) (t : Term A) (env : ℕ → Marks) (p : ℕ) (n : Count) (w : Marks) (a b c d : Code) → IsOverLaunch l item ins num env p n t w a c → IsOverLaunch l item ins num env p n t w b d → Alike grouped l item [] c d → Alike grouped l item [] a b
   alike_over_launch num (Reshape m t) env p n w a b c d x y h = alike_over_launch num t env p n (λ cs q. w cs (result_position num m q)) a b c d x.1 y.1 h
   alike_over_launch num (LetArray v t) env p n w a b c d x y h = alike_gathered num v [] env p n a b x.0 y.0 x.1 y.1 (alike_over_launch num t (push (argument_marks l ins num env p v) env) (p + private_count v) (more n (variable_count v)) w x.0 y.0 c d x.2 y.2 h)
-  alike_over_launch num (Map Global len loads xs t) env p n w a b c d x y h = alike_along num (Map Global len loads xs t) [] env p n w a b c d x y h
-  alike_over_launch num (Map GlobalRows len loads xs t) env p n w a b c d x y h =
+  alike_over_launch num (Map (Over level.Launch X) len loads xs t) env p n w a b c d x y h = alike_along num (Map (Over level.Launch X) len loads xs t) [] env p n w a b c d x y h
+  alike_over_launch num (Map (Over level.Launch Y) len loads xs t) env p n w a b c d x y h =
       let e = argument_marks l ins num env p xs in
       alike_gathered num xs [] env p n a b x.0 y.0 x.1 y.1
-      (alike_loop [] GlobalRows (num len) _ x.0 y.0 c d x.2 y.2
+      (alike_loop [] (Over level.Launch Y) (num len) _ x.0 y.0 c d x.2 y.2
       (λ i lt own u v r s. alike_loaded ([] ++ i ∷ []) loads (at_index i e) (more n (variable_count xs)) u v r.0 s.0 r.1 s.1
       (alike_along num t ([] ++ i ∷ []) (push (loaded_marks loads (at_index i e) (more n (variable_count xs))) env) (p + private_count xs) (more (more n (variable_count xs)) (load_count loads)) (at_index i w) r.0 s.0 End End r.2 s.2 tt)) h)
   alike_over_launch num _ env p n w a b c d x y h = absurd x

@@ -1,5 +1,7 @@
 -- What the printer prints is printed.
 use Rattle.std.proofs.Common.{◌≡◌, ℕ, suc, ◌+◌, ◌<◌, ◌^◌, Bool, true, false, List, [], ◌∷◌, ◌++◌, length, Option, Some, refl, sym, ap, ◌∙◌, subst, arith, length-append}
+use Rattle.lift_tree.specs.declared.term.Level.TheVariants as level
+use Rattle.lift_tree.specs.declared.term.Dimension.TheVariants.{X, Y}
 use Rattle.kernel_tree.specs.Formula.{Formula, Lanes, Number, LoopVariable, Binary, Spread}
 use Rattle.kernel_tree.specs.Formula as formula
 use Rattle.kernel_tree.specs.Code.{Private, Code, End, Performs, Assigns, AssignsFour, Loops}
@@ -7,7 +9,7 @@ use Rattle.kernel_tree.specs.Launch.{Launch}
 use Rattle.lift_ir.specs.Types.{Ty, Scalar, PairOf, ArrayOf, four, IsElement}
 use Rattle.lift_ir.specs.Fours.{Lie, Loose, Whole, element_lie, bound_lie, held_lie, written_lie, Lies, LoadsFours, ReadsFours, WritesFours}
 use Rattle.lift_ir.specs.Layouts.{result_position}
-use Rattle.lift_ir.specs.Terms.{PrivateMemory, LoadSet, LoadsScalars, Global, GlobalRows, Sequential, Term, Literal, Bound, Source, Apply, ApplyNumber, ApplyLanes, DivideLanes, Select, Both, Project, Reshape, LetArray, LetElement, Map, Fold, Store, Copy, push, lane_type, HasType}
+use Rattle.lift_ir.specs.Terms.{PrivateMemory, LoadSet, LoadsScalars, Over, Sequential, Term, Literal, Bound, Source, Apply, ApplyNumber, ApplyLanes, DivideLanes, Select, Both, Project, Reshape, LetArray, LetElement, Map, Fold, Store, Copy, push, lane_type, HasType}
 use Rattle.lift_ir.specs.Scalars.{at_index}
 use Rattle.printed_form.specs.Arguments.{private_arrays, argument_view}
 use Rattle.printed_form.specs.Marks.{Marks, laid_in, held_marks, loaded_marks}
@@ -363,7 +365,7 @@ module _ (l : Launch) (item : ℕ) {A : Type 0} (num : A → ℕ) (spell : A →
       along_is t ts depth lies g views env h a n ok.0 (written_lie y fs.0) (rewritten_view spell y v) (λ cs q. w cs (result_position num y q)) rest d ok.1 nm sd.1 fs.2 es gs r (back_cells l item num spell spelled ts y ok.0 ty v w sd.0 ok.2 ok.3 ok.4 cells)
           (written_lies l item num spell spelled y fs.0 ts ok.0 ty v w sd.0 ok.2 ok.3 ok.4 (lie_serves l item z fs.0 ts ty v w fs.1 lie)),
     )
-    along_is (Map Global z0 loads xs b) ts depth lies g views env h a n ty z v w rest d ok nm sd fs es gs r cells lie =
+    along_is (Map (Over level.Launch X) z0 loads xs b) ts depth lies g views env h a n ty z v w rest d ok nm sd fs es gs r cells lie =
         let len = num z0 in
         let e = argument_view private_arrays spell sins views a xs in
         let f = argument_marks l ins num env a xs in
@@ -372,7 +374,7 @@ module _ (l : Launch) (item : ℕ) {A : Type 0} (num : A → ℕ) (spell : A →
         let views2 = push (loaded_view loads x n1) views in
         let inner = print_written spell sins (suc depth) views2 (a + private_count xs) (more n1 (load_count loads)) b (view_at (LoopVariable depth) v) End in
         let body = print_loaded loads x n1 inner in
-        let loop = Loops (start_of Global) (spell z0) (stride_of Global) body rest in
+        let loop = Loops (start_of (Over level.Launch X)) (spell z0) (stride_of (Over level.Launch X)) body rest in
         let p = shown xs ts lies g views env h a (ArrayOf len ok.0) fs.0 ok.4 nm.0 sd.0 es gs fs.1 in
         let cells2 = subst (λ q. HasCells l item ts q v w) ok.6 cells in
         let lie2 = subst (λ q. LiesAs l item z ts q v w) ok.6 lie in (
@@ -412,8 +414,8 @@ module _ (l : Launch) (item : ℕ) {A : Type 0} (num : A → ℕ) (spell : A →
           gathered_is x [] 0 lies g views env h a n ok.0 next refl ok.1 nm.0 sd.0 fs.2 es gs r,
           over_launch_is b (push fs.0 lies) (push ok.0 g) (push e views) (push f env) (push (held_scalars h x) h) (a + private_count x) (more n (variable_count x)) ty z v w rest ok.2 nm.1 sd.1 fs.3 (shown_push x [] lies g views env h a ok.0 fs.0 ok.1 nm.0 sd.0 es gs fs.1) gs (kept_push x g views env h a ok.0 ok.1 r) cells lie,
         )
-    over_launch_is (Map Global z0 loads xs b) lies g views env h a n ty z v w rest ok nm sd fs es gs r cells lie = along_is (Map Global z0 loads xs b) [] 0 lies g views env h a n ty z v w rest refl ok nm sd fs es gs r cells lie
-    over_launch_is (Map GlobalRows z0 loads xs b) lies g views env h a n ty z v w rest ok nm sd fs es gs r cells lie =
+    over_launch_is (Map (Over level.Launch X) z0 loads xs b) lies g views env h a n ty z v w rest ok nm sd fs es gs r cells lie = along_is (Map (Over level.Launch X) z0 loads xs b) [] 0 lies g views env h a n ty z v w rest refl ok nm sd fs es gs r cells lie
+    over_launch_is (Map (Over level.Launch Y) z0 loads xs b) lies g views env h a n ty z v w rest ok nm sd fs es gs r cells lie =
         let len = num z0 in
         let e = argument_view private_arrays spell sins views a xs in
         let f = argument_marks l ins num env a xs in
@@ -422,7 +424,7 @@ module _ (l : Launch) (item : ℕ) {A : Type 0} (num : A → ℕ) (spell : A →
         let views2 = push (loaded_view loads x n1) views in
         let inner = print_written spell sins 1 views2 (a + private_count xs) (more n1 (load_count loads)) b (view_at (LoopVariable 0) v) End in
         let body = print_loaded loads x n1 inner in
-        let loop = Loops (start_of GlobalRows) (spell z0) (stride_of GlobalRows) body rest in
+        let loop = Loops (start_of (Over level.Launch Y)) (spell z0) (stride_of (Over level.Launch Y)) body rest in
         let p = shown xs [] lies g views env h a (ArrayOf len ok.0) fs.0 ok.4 nm.0 sd.0 es gs fs.1 in
         let cells2 = subst (λ q. HasCells l item [] q v w) ok.6 cells in
         let lie2 = subst (λ q. LiesAs l item z [] q v w) ok.6 lie in (

@@ -5,7 +5,7 @@ use Rattle.kernel_tree.specs.Code.{Private, Code, then_rest}
 use Rattle.kernel_tree.specs.Launch.{Launch}
 use Rattle.lift_ir.specs.Types.{Ty, Scalar, PairOf, ArrayOf}
 use Rattle.lift_ir.specs.Layouts.{result_position}
-use Rattle.lift_ir.specs.Terms.{LoadSet, Skip, Take, TakeFour, Each, Global, WorkGroup, Local, Sequential, GlobalRows, WorkGroupRows, LocalRows, LocalMemory, PrivateMemory, Term, Literal, Bound, Source, Apply, ApplyNumber, ApplyLanes, DivideLanes, Select, Both, Project, Reshape, LetArray, LetElement, Map, Fold, Store, Copy, push}
+use Rattle.lift_ir.specs.Terms.{LoadSet, Skip, Take, TakeFour, Each, Over, Sequential, LocalMemory, PrivateMemory, Term, Literal, Bound, Source, Apply, ApplyNumber, ApplyLanes, DivideLanes, Select, Both, Project, Reshape, LetArray, LetElement, Map, Fold, Store, Copy, push}
 use Rattle.lift_ir.specs.Scalars.{at_index}
 use Rattle.printed_form.specs.Counts.{Count, more, held_count, let_variables, load_count, variable_count, private_count}
 use Rattle.printed_form.specs.Marks.{Marks, laid_in, held_marks}
@@ -115,12 +115,7 @@ module _ (on : Code) where
         (h.7.0, h.7.1, ap (λ c. then_rest c on) h.7.2, h.7.3, h.7.4),
         stored_on ts ty (λ cs. held (held_marks ty (more (more n (variable_count xs)) (let_variables s)) cs)) (at_index 0 w) h.3 rest h.8,
       )
-      written_on num ts env a n (Map Global len loads xs b) w code rest h = absurd h
-      written_on num ts env a n (Map WorkGroup len loads xs b) w code rest h = absurd h
-      written_on num ts env a n (Map Local len loads xs b) w code rest h = absurd h
-      written_on num ts env a n (Map GlobalRows len loads xs b) w code rest h = absurd h
-      written_on num ts env a n (Map WorkGroupRows len loads xs b) w code rest h = absurd h
-      written_on num ts env a n (Map LocalRows len loads xs b) w code rest h = absurd h
+      written_on num ts env a n (Map (Over _ _) len loads xs b) w code rest h = absurd h
       written_on num ts env a n (Literal c) w code rest h = absurd h
       written_on num ts env a n (Bound v) w code rest h = absurd h
       written_on num ts env a n (Source s) w code rest h = absurd h

@@ -3,6 +3,7 @@ use Rattle.std.proofs.Common.{◌≡◌, ℕ, suc, ◌+◌, ◌*◌, ◌<◌, �
 use Rattle.std.specs.Prelude.{if◌then◌else◌, nat_lt, ◌==◌, ◌&&◌, slice_index}
 use Rattle.std.proofs.lemmas.Bool.{ltb-true}
 use Rattle.std.proofs.Math.Path.{fun_ext}
+use Rattle.lift_tree.specs.declared.term.Level.TheVariants as level
 use Rattle.kernel_tree.specs.declared.events.Event.{Event}
 use Rattle.kernel_tree.specs.declared.events.Event.TheVariants.{Step, Release}
 use Rattle.kernel_tree.specs.declared.events.FaultKind.{FaultKind}
@@ -19,7 +20,7 @@ use Rattle.kernel_tree.specs.EveryRun.{Completes}
 use Rattle.kernel_tree.specs.Meets.{IsWaiting, MeetTogether}
 use Rattle.kernel_tree.proofs.Grouping.{first_of_group, first_in_launch, in_launch}
 use Rattle.lift_ir.specs.Types.{Ty}
-use Rattle.lift_ir.specs.Terms.{Global, GlobalRows, Term, Reshape, LetArray, Map}
+use Rattle.lift_ir.specs.Terms.{Over, Term, Reshape, LetArray, Map}
 use Rattle.printed_form.specs.Counts.{Count, no_variables}
 use Rattle.printed_form.specs.Marks.{Marks}
 use Rattle.printed_form.specs.Form.{IsWritten}
@@ -378,8 +379,7 @@ same_lengths k m c locals privates (Private n) = ap (λ ns. slice_index ns n) pr
 never_both : {A : Type 0} (num : A → ℕ) (l : Launch) (item : ℕ) (ins : ℕ → Marks) (t : Term A) (ts : List ℕ) (env env2 : ℕ → Marks) (p p2 : ℕ) (n n2 : Count) (w w2 : Marks) (a b c e : Code) → IsWritten l item ins num ts env p n t w a b → IsOverLaunch l item ins num env2 p2 n2 t w2 c e → ⊥
 never_both num l item ins (Reshape y t) ts env env2 p p2 n n2 w w2 a b c e x z = never_both num l item ins t ts env env2 p p2 n n2 _ _ a b c e x.1 z.1
 never_both num l item ins (LetArray v t) ts env env2 p p2 n n2 w w2 a b c e x z = never_both num l item ins t ts _ _ _ _ _ _ w w2 x.0 b z.0 e x.2 z.2
-never_both num l item ins (Map Global len loads xs t) ts env env2 p p2 n n2 w w2 a b c e x z = x
-never_both num l item ins (Map GlobalRows len loads xs t) ts env env2 p p2 n n2 w w2 a b c e x z = x
+never_both num l item ins (Map (Over level.Launch _) len loads xs t) ts env env2 p p2 n n2 w w2 a b c e x z = x
 never_both num l item ins _ ts env env2 p p2 n n2 w w2 a b c e x z = z
 
 pub codes_alike : {A : Type 0} (num : A → ℕ) (l : Launch) (ins : ℕ → Marks) (t : Term A) (ty : Ty) (a b : Code) → IsCode l ins num t ty a → IsCode l ins num t ty b → (item : ℕ) → item < item_count l → Alike false l item [] a b

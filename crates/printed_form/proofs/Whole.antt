@@ -3,6 +3,8 @@ use Rattle.std.proofs.Common.{◌≡◌, ℕ, ◌+◌, ◌*◌, ◌/◌, ◌%◌
 use Rattle.std.specs.Prelude.{map, slice_index}
 use Rattle.std.proofs.lemmas.Bool.{cases_lt, and_parts}
 use Rattle.std.proofs.Math.Nat.{mul-div_cancel, mul-le-mul_right, mod-lt}
+use Rattle.lift_tree.specs.declared.term.Level.TheVariants as level
+use Rattle.lift_tree.specs.declared.term.Dimension.TheVariants.{X, Y}
 use Rattle.kernel_tree.specs.declared.events.Event.{Event}
 use Rattle.kernel_tree.specs.Formula.{Formula, bound_value}
 use Rattle.kernel_tree.specs.Code.{Array, Input, Output, Local, Private, Code, End, Kernel}
@@ -21,14 +23,14 @@ use Rattle.kernel_tree.specs.Strides.{turns_of}
 use Rattle.kernel_tree.proofs.Stride.{turn_below, turn_past, turn_owner, owner_turn, owner_has}
 use Rattle.printed_form.specs.Headline.{output_cell, KeepsHeadline, EveryRunKeeps}
 use Rattle.lift_ir.specs.Types.{Ty, ArrayOf, IsPosition, width, size, component, flat, unflat}
-use Rattle.lift_ir.specs.Terms.{LoadSet, LoadsScalars, Global, GlobalRows, Term, LetArray, Reshape, Map, push, HasType, no_type}
+use Rattle.lift_ir.specs.Terms.{LoadSet, LoadsScalars, Over, Term, LetArray, Reshape, Map, push, HasType, no_type}
 use Rattle.lift_ir.specs.Layouts.{Layout, operand_position, Reshapes, result_position, IsInvertible}
 use Rattle.lift_ir.specs.Scalars.{Scalars, at_index, mapped, scalars_of, no_scalars, AreLists}
 use Rattle.printed_form.specs.Marks.{Mark, Nowhere, Register, Lane, Spot, Marks, loaded_marks}
 use Rattle.printed_form.specs.Counts.{Count, AtMost, more, no_variables, variable_count, private_count, load_count}
 use Rattle.printed_form.specs.Form.{argument_marks, IsLoop, IsLoaded, IsWritten, Declares}
 use Rattle.printed_form.specs.Runs.{Setting, Known, Fits, Scratch, spot_cell, mark_cell, HoldsAt, Holds, AllHold, DueAt, Due, Wrote, known_after, Ran, Apart}
-use Rattle.lift_ir.specs.Owner.{column_owner, row_owner, owner, is_in_rows}
+use Rattle.lift_ir.specs.Owner.{owner_along, owner, is_in_rows}
 use Rattle.printed_form.specs.Whole.{IsAlongRow, IsOverLaunch, no_marks, output_marks, IsGiven, IsPrinted}
 use Rattle.lift_ir.proofs.Positions.{operand_in, result_in, result_operand}
 use Rattle.printed_form.proofs.Cells.{loads_run}
@@ -127,7 +129,7 @@ module _ {A : Type 0} (num : A → ℕ) (ins : ℕ → Marks) (src : ℕ → Ty)
       let z : t * size ≡ u * size = omega arith in
       sym (mul-div_cancel t pos) ∙ ap (λ v. v / size) z ∙ mul-div_cancel u pos
 
-  glb_counts : (len : ℕ) (f : Formula) (body rest : Code) → len < 2 ^ 31 → bound_value l.sizes f ≡ Some len → Counts st.device st.item (loop_of st num ins src sources own Global f body rest) (turns_of len across column)
+  glb_counts : (len : ℕ) (f : Formula) (body rest : Code) → len < 2 ^ 31 → bound_value l.sizes f ≡ Some len → Counts st.device st.item (loop_of st num ins src sources own (Over level.Launch X) f body rest) (turns_of len across column)
   glb_counts len f body rest small h = record {
     bound = len;
     bound_is = h;
@@ -136,7 +138,7 @@ module _ {A : Type 0} (num : A → ℕ) (ins : ℕ → Marks) (src : ℕ → Ty)
     fits = λ t lt. let a = turn_below len across column t column_in lt in let b = few_across in omega arith;
   }
 
-  rows_counts : (len : ℕ) (f : Formula) (body rest : Code) → len < 2 ^ 31 → bound_value l.sizes f ≡ Some len → Counts st.device st.item (loop_of st num ins src sources own GlobalRows f body rest) (turns_of len down line)
+  rows_counts : (len : ℕ) (f : Formula) (body rest : Code) → len < 2 ^ 31 → bound_value l.sizes f ≡ Some len → Counts st.device st.item (loop_of st num ins src sources own (Over level.Launch Y) f body rest) (turns_of len down line)
   rows_counts len f body rest small h = record {
     bound = len;
     bound_is = h;
@@ -147,19 +149,19 @@ module _ {A : Type 0} (num : A → ℕ) (ins : ℕ → Marks) (src : ℕ → Ty)
 
   -- the scalars of the item's column
   abbrev InColumn : Term A → List ℕ → Type 0
-  InColumn t q = column_owner num l t q ≡ column
+  InColumn t q = owner_along X num l t q ≡ column
 
-  due_place : (a : ℕ) (n : A) (i : ℕ) (loads : LoadSet) (xs b : Term A) (y : Ty) (w : Marks) → i < num n → i % across ≡ column → DuePart (InColumn (Map Global n loads xs b)) a (ArrayOf (num n) y) w → Due st a y (at_index i w)
+  due_place : (a : ℕ) (n : A) (i : ℕ) (loads : LoadSet) (xs b : Term A) (y : Ty) (w : Marks) → i < num n → i % across ≡ column → DuePart (InColumn (Map (Over level.Launch X) n loads xs b)) a (ArrayOf (num n) y) w → Due st a y (at_index i w)
   due_place a n i loads xs b y w lt o h = record {
     at = λ cs q k. h.at cs (i ∷ q) (lt, k) o;
     choices = λ cs ds q p k j e. h.choices cs ds (i ∷ q) (i ∷ p) (lt, k) (lt, j) e;
     places = λ cs ds q p k j e. rest_is i i q p (h.places cs ds (i ∷ q) (i ∷ p) (lt, k) (lt, j) e);
   }
 
-  places_of : (n : A) (loads : LoadSet) (xs b : Term A) (y : Ty) (w : Marks) (s : Scalars) (c : Cell) (v : ℕ) → PartTargets (InColumn (Map Global n loads xs b)) (ArrayOf (num n) y) w s c v → Rows st own_place y w s (turns_of (num n) across column) c v
+  places_of : (n : A) (loads : LoadSet) (xs b : Term A) (y : Ty) (w : Marks) (s : Scalars) (c : Cell) (v : ℕ) → PartTargets (InColumn (Map (Over level.Launch X) n loads xs b)) (ArrayOf (num n) y) w s c v → Rows st own_place y w s (turns_of (num n) across column) c v
   places_of n loads xs b y w s c v z = go z.0 z.1 z.2 z.3 z.4 z.5
     where
-      go : (cs : List Bool) (q : List ℕ) → IsPosition (ArrayOf (num n) y) cs q → column_owner num l (Map Global n loads xs b) q ≡ column → c ≡ mark_cell st (w cs q) → v ≡ s cs q → Rows st (λ t. column + t * across) y w s (turns_of (num n) across column) c v
+      go : (cs : List Bool) (q : List ℕ) → IsPosition (ArrayOf (num n) y) cs q → owner_along X num l (Map (Over level.Launch X) n loads xs b) q ≡ column → c ≡ mark_cell st (w cs q) → v ≡ s cs q → Rows st (λ t. column + t * across) y w s (turns_of (num n) across column) c v
       go cs [] i o e z = absurd i
       go cs (j ∷ q) i o e z =
           let pos : 0 < across = (let z = column_in in omega arith) in
@@ -167,7 +169,7 @@ module _ {A : Type 0} (num : A → ℕ) (ins : ℕ → Marks) (src : ℕ → Ty)
           let lt : j / across < turns_of (num n) across column = subst (λ x. j / across < turns_of (num n) across x) o (owner_has (num n) across j pos i.0) in
           (j / across, lt, (cs, q, i.1, e ∙ ap (λ x. mark_cell st (w cs (x ∷ q))) is, z ∙ ap (λ x. s cs (x ∷ q)) is))
 
-  of_places : (n : A) (loads : LoadSet) (xs b : Term A) (y : Ty) (w : Marks) (s : Scalars) (c : Cell) (v : ℕ) → Rows st own_place y w s (turns_of (num n) across column) c v → PartTargets (InColumn (Map Global n loads xs b)) (ArrayOf (num n) y) w s c v
+  of_places : (n : A) (loads : LoadSet) (xs b : Term A) (y : Ty) (w : Marks) (s : Scalars) (c : Cell) (v : ℕ) → Rows st own_place y w s (turns_of (num n) across column) c v → PartTargets (InColumn (Map (Over level.Launch X) n loads xs b)) (ArrayOf (num n) y) w s c v
   of_places n loads xs b y w s c v r = let t = r.2 in (t.0, own_place r.0 ∷ t.1, (turn_below (num n) across column r.0 column_in r.1, t.2), turn_owner across column r.0 column_in, t.3, t.4)
 
   -- a map along a row fills the scalars of the item's column
@@ -176,7 +178,7 @@ module _ {A : Type 0} (num : A → ℕ) (ins : ℕ → Marks) (src : ℕ → Ty)
   along (Reshape y a) ts fs at_ts gt env sems ty w x code rest ok h room long due es gs =
       let r = along a ts fs at_ts gt env sems ok.0 (λ cs q. w cs (result_position num y q)) x code rest ok.1 h.1 room long (part_back (InColumn a) y ok.0 ty w (x.arrays + private_count a) h.0 ok.2 due) es gs in
       fills_back (InColumn a) y a ok.0 ty w (scalars_of num sources sems a) x fs code rest h.0 ok.2 r
-  along (Map Global n loads xs b) ts fs at_ts gt env sems ty w x code rest ok h room long due es gs =
+  along (Map (Over level.Launch X) n loads xs b) ts fs at_ts gt env sems ty w x code rest ok h room long due es gs =
       let len = num n in
       let xt = ok.0 in
       let yt = ok.1 in
@@ -189,7 +191,7 @@ module _ {A : Type 0} (num : A → ℕ) (ins : ℕ → Marks) (src : ℕ → Ty)
       let s = mapped (λ z. scalars_of num sources (push z sems) b) D in
       let count = turns_of len across column in
       let room2 : Fits (more (more (more x.count (variable_count xs)) (load_count loads)) (variable_count b)) r.after = fewer_later room r.later.kept (omega arith) (omega arith) in
-      let M = Map Global n loads xs b in
+      let M = Map (Over level.Launch X) n loads xs b in
       let due1 : DuePart (InColumn M) (x.arrays + (private_count xs + private_count b)) (ArrayOf len yt) w = subst (λ t. DuePart (InColumn M) (x.arrays + (private_count xs + private_count b)) t w) ok.6 due in
       let a2 = a1 + private_count b in
       let n2 = more x.count (more (variable_count xs) (more (load_count loads) (variable_count b))) in
@@ -198,7 +200,7 @@ module _ {A : Type 0} (num : A → ℕ) (ins : ℕ → Marks) (src : ℕ → Ty)
       let gs2 = all_hold_later st x y src ins sources r.later gs in
       let T = PartTargets (InColumn M) (ArrayOf len yt) w s in
       let some : 0 < across = (let z = column_in in omega arith) in
-      let r2 = map_run st num ins src sources own Global own_place count len loads b ts fs gt env sems xt yt e w D y h.0 rest n2 a2 at_ts (λ f body q. glb_counts len f body rest ok.2 q) (λ f body t. refl) (λ t lt. turn_below len across column t column_in lt) (λ t u q. strides_differ column across t u some q) ok.3 due2.places
+      let r2 = map_run st num ins src sources own (Over level.Launch X) own_place count len loads b ts fs gt env sems xt yt e w D y h.0 rest n2 a2 at_ts (λ f body q. glb_counts len f body rest ok.2 q) (λ f body t. refl) (λ t lt. turn_below len across column t column_in lt) (λ t u q. strides_differ column across t u some q) ok.3 due2.places
       (λ t lt. due_place a2 n (own_place t) loads xs b yt w (turn_below len across column t column_in lt) (turn_owner across column t column_in) due2) h.2 room2 r.good es2 gs2
       (λ i lt m vars fs2 inner at2 h2 room3 due3 es3 gs3. writes st num ins src sources own b (ts ++ i ∷ []) fs2 at2 (push xt gt) (push (loaded_marks loads (at_index i e) n1) env) (push (at_index i D) sems) yt (at_index i w) (in_turn st num ins src sources own y loads m vars) inner End ok.5 h2 room3 long.1 due3 es3 gs3)
       (at_most (omega arith) (omega arith)) (omega arith) in
@@ -211,17 +213,17 @@ module _ {A : Type 0} (num : A → ℕ) (ins : ℕ → Marks) (src : ℕ → Ty)
 
   -- the item's own scalars: of its column and its row
   abbrev Own : Term A → List ℕ → Type 0
-  Own t q = (column_owner num l t q ≡ column) × (row_owner num l t q ≡ line)
+  Own t q = (owner_along X num l t q ≡ column) × (owner_along Y num l t q ≡ line)
 
   -- rows of the launch, each filled along
 
   module _ (n : A) (loads : LoadSet) (xs b : Term A) (gt : ℕ → Ty) (env : ℕ → Marks) (sems : ℕ → Scalars) (xt yt : Ty) (e w : Marks) (D : Scalars) (x : Known) (rest : Code) (small : num n < 2 ^ 31) (suits : LoadsScalars loads xt) (typed : HasType num src (push xt gt) b yt) (long : Declares st.device.lengths x.arrays b)
-      (due : DuePart (Own (Map GlobalRows n loads xs b)) (x.arrays + private_count b) (ArrayOf (num n) yt) w) (room : Fits (more (more x.count (load_count loads)) (variable_count b)) x.vars) (holds : Holds st x (ArrayOf (num n) xt) e D) (es : AllHold st x gt env sems) (gs : AllHold st x src ins sources) where
+      (due : DuePart (Own (Map (Over level.Launch Y) n loads xs b)) (x.arrays + private_count b) (ArrayOf (num n) yt) w) (room : Fits (more (more x.count (load_count loads)) (variable_count b)) x.vars) (holds : Holds st x (ArrayOf (num n) xt) e D) (es : AllHold st x gt env sems) (gs : AllHold st x src ins sources) where
     abbrev row_values : Scalars
     row_values = mapped (λ z. scalars_of num sources (push z sems) b) D
 
     abbrev M : Term A
-    M = Map GlobalRows n loads xs b
+    M = Map (Over level.Launch Y) n loads xs b
 
     abbrev count : ℕ
     count = turns_of (num n) down line
@@ -282,7 +284,7 @@ module _ {A : Type 0} (num : A → ℕ) (ins : ℕ → Marks) (src : ℕ → Ty)
     }
 
     lines_run : (n2 : Count) (a2 : ℕ) → AtMost x.count n2 → x.arrays ≤ a2 → (code : Code)
-        → IsLoop l st.item ins GlobalRows (num n)
+        → IsLoop l st.item ins (Over level.Launch Y) (num n)
         (λ i body. (inner : Code) × IsLoaded l st.item ins ([] ++ i ∷ []) loads (at_index i e) x.count body inner
         × IsAlongRow l st.item ins num ([] ++ i ∷ []) (push (loaded_marks loads (at_index i e) x.count) env) x.arrays (more x.count (load_count loads)) b (at_index i w) inner End)
         code rest
@@ -292,17 +294,17 @@ module _ {A : Type 0} (num : A → ℕ) (ins : ℕ → Marks) (src : ℕ → Ty)
         (looped st [] p count counted x (Scratch x.arrays last) Lines Line (λ t m vars. Unit {0}) no_lines lines_apart (more (more x.count (load_count loads)) (variable_count b)) last tt turn n2 a2 le le2)
       where
         p : Loop
-        p = loop_of st num ins src sources own GlobalRows h.0 h.1 rest
+        p = loop_of st num ins src sources own (Over level.Launch Y) h.0 h.1 rest
 
-        counted : Counts st.device st.item (loop_of st num ins src sources own GlobalRows h.0 h.1 rest) count
+        counted : Counts st.device st.item (loop_of st num ins src sources own (Over level.Launch Y) h.0 h.1 rest) count
         counted = rows_counts (num n) h.0 h.1 rest small h.3
 
-        turn : TurnRuns st [] (loop_of st num ins src sources own GlobalRows h.0 h.1 rest) count (rows_counts (num n) h.0 h.1 rest small h.3) x (Scratch x.arrays last) Lines Line (λ t m vars. Unit {0}) no_lines lines_apart (more (more x.count (load_count loads)) (variable_count b)) last
+        turn : TurnRuns st [] (loop_of st num ins src sources own (Over level.Launch Y) h.0 h.1 rest) count (rows_counts (num n) h.0 h.1 rest small h.3) x (Scratch x.arrays last) Lines Line (λ t m vars. Unit {0}) no_lines lines_apart (more (more x.count (load_count loads)) (variable_count b)) last
         turn t lt m vars later inv =
             let i = own_line t in
             let lt2 : i < num n = line_below t lt in
             let z = at x m vars in
-            let fs2 = frame_of st.device st.item (loop_of st num ins src sources own GlobalRows h.0 h.1 rest) t ∷ [] in
+            let fs2 = frame_of st.device st.item (loop_of st num ins src sources own (Over level.Launch Y) h.0 h.1 rest) t ∷ [] in
             let k = h.4 i lt2 (t, refl) in
             let el : Holds st z xt (at_index i e) (at_index i D) = λ cs q a. holds_later st x z (ArrayOf (num n) xt) e D later holds cs (i ∷ q) (lt2, a) in
             let long1 = fits_later room later.kept in
@@ -349,17 +351,17 @@ module _ {A : Type 0} (num : A → ℕ) (ins : ℕ → Marks) (src : ℕ → Ty)
       let r2 = tops b (push ok.0 gt) (push e env) (push D sems) ty w y h.0 rest first ok.2 h.2 room2 long.1 due2 es2 (all_hold_later st x y src ins sources r.later gs) in
       ran_eq st x [] code rest n2 a2 (more x.count (more (variable_count v) (variable_count b))) (x.arrays + (private_count v + private_count b)) x.arrays (more_more x.count (variable_count v) (variable_count b)) (omega arith)
       (ran_on st x [] code h.0 rest (more x.count (variable_count v)) (x.arrays + private_count v) n2 a2 (scratch_then st x.arrays (x.arrays + private_count v) a2 T (omega arith) (omega arith) (part_unscratched (Own b) x.arrays a2 ty w s due2)) r r2)
-  tops (Map Global n loads xs b) gt env sems ty w x code rest first ok h room long due es gs =
-      let M = Map Global n loads xs b in
+  tops (Map (Over level.Launch X) n loads xs b) gt env sems ty w x code rest first ok h room long due es gs =
+      let M = Map (Over level.Launch X) n loads xs b in
       let zero_is : line ≡ 0 = first refl in
       let column_due : DuePart (InColumn M) (x.arrays + private_count M) ty w = record { at = λ cs q k o. due.at cs q k (o, none q ∙ sym zero_is); choices = due.choices; places = due.places } in
       let r = along M [] [] refl gt env sems ty w x code rest ok h room long column_due es gs in
       ran_as st x [] code rest (more x.count (variable_count M)) (x.arrays + private_count M) (more x.count (variable_count M)) (x.arrays + private_count M) (λ k. Unit {0}) (many_more x.count (variable_count M)) (omega arith) (λ m vars z. z) (λ c s. s)
       (λ c v t. inl (t.0, t.1, t.2, (t.3, none t.1 ∙ sym zero_is), t.4, t.5)) (λ c v t. (t.0, t.1, t.2, t.3.0, t.4, t.5)) r
     where
-      none : (q : List ℕ) → row_owner num l (Map Global n loads xs b) q ≡ 0
+      none : (q : List ℕ) → owner_along Y num l (Map (Over level.Launch X) n loads xs b) q ≡ 0
       none q = refl
-  tops (Map GlobalRows n loads xs b) gt env sems ty w x code rest first ok h room long due es gs =
+  tops (Map (Over level.Launch Y) n loads xs b) gt env sems ty w x code rest first ok h room long due es gs =
       let len = num n in
       let xt = ok.0 in
       let yt = ok.1 in
@@ -371,7 +373,7 @@ module _ {A : Type 0} (num : A → ℕ) (ins : ℕ → Marks) (src : ℕ → Ty)
       let D = scalars_of num sources sems xs in
       let s = mapped (λ z. scalars_of num sources (push z sems) b) D in
       let room2 : Fits (more (more (more x.count (variable_count xs)) (load_count loads)) (variable_count b)) r.after = fewer_later room r.later.kept (omega arith) (omega arith) in
-      let M = Map GlobalRows n loads xs b in
+      let M = Map (Over level.Launch Y) n loads xs b in
       let due1 : DuePart (Own M) (x.arrays + (private_count xs + private_count b)) (ArrayOf len yt) w = subst (λ t. DuePart (Own M) (x.arrays + (private_count xs + private_count b)) t w) ok.6 due in
       let a2 = a1 + private_count b in
       let n2 = more x.count (more (variable_count xs) (more (load_count loads) (variable_count b))) in
@@ -464,7 +466,7 @@ module _ {A : Type 0} (num : A → ℕ) (l : Launch) (src : ℕ → Ty) (ins : �
   first_line : (j : ℕ) → j < item_count l → is_in_rows t ≡ false → row_of l j ≡ 0
   first_line j lt e = let z = subst (λ n. row_of l j < n) (h.made.flat e).one_row (row_below l h.made.whole j lt) in omega arith
 
-  owner_parts : (j : ℕ) → j < item_count l → (q : List ℕ) → owner num l t q ≡ j → (column_owner num l t q ≡ column_of l j) × (row_owner num l t q ≡ row_of l j)
+  owner_parts : (j : ℕ) → j < item_count l → (q : List ℕ) → owner num l t q ≡ j → (owner_along X num l t q ≡ column_of l j) × (owner_along Y num l t q ≡ row_of l j)
   owner_parts j lt q o = (owner_column num l t q j h.made.whole lt o, owner_row num l t q j h.made.whole lt o)
 
   item_runs : (j : ℕ) → j < item_count l → Runs j

@@ -2,38 +2,41 @@
 -- given turns of the loops around it:
 -- any index expressions and bounds of the right values.
 use Rattle.std.specs.Prelude.{◌≡◌, ℕ, ◌+◌, ◌*◌, ◌<◌, Bool, true, false, List, [], ◌∷◌, ◌++◌, Option, Some}
-use Rattle.kernel_tree.specs.declared.tree.Dimension.TheVariants.{X, Y}
+use Rattle.lift_tree.specs.declared.term.Level.TheVariants as level
+use Rattle.lift_tree.specs.declared.term.Dimension.{Dimension}
+use Rattle.lift_tree.specs.declared.term.Dimension.TheVariants.{X, Y}
+use Rattle.kernel_tree.specs.declared.tree.Dimension as kernel
+use Rattle.kernel_tree.specs.declared.tree.Dimension.TheVariants as in_kernel
 use Rattle.kernel_tree.specs.Formula.{Formula, Vars, value, bound_value, Lanes}
 use Rattle.kernel_tree.specs.Code.{Array, Private, Start, FromZero, FromGlobalId, FromGroupId, FromLocalId, Stride, ByOne, ByGlobalSize, ByGroupCount, ByLocalSize, start_value, stride_value, Code, End, Performs, Assigns, Loads, Stores, Loops, AssignsFour, LoadsFour, StoresFour}
 use Rattle.kernel_tree.specs.Launch.{Launch, ids_of}
 use Rattle.lift_ir.specs.Types.{Ty, Scalar, PairOf, ArrayOf, IsFour, width, size}
 use Rattle.lift_ir.specs.Layouts.{result_position, IsInvertible}
-use Rattle.lift_ir.specs.Terms.{LoadSet, Skip, Take, Each, Kind, Global, WorkGroup, Local, Sequential, GlobalRows, WorkGroupRows, LocalRows, LocalMemory, PrivateMemory, Term, Literal, Bound, Source, Apply, ApplyNumber, Select, Both, Project, Reshape, LetArray, LetElement, Map, Fold, Store, Copy, push, TakeFour, ApplyLanes, DivideLanes}
+use Rattle.lift_ir.specs.Terms.{LoadSet, Skip, Take, Each, Kind, Over, Sequential, LocalMemory, PrivateMemory, Term, Literal, Bound, Source, Apply, ApplyNumber, Select, Both, Project, Reshape, LetArray, LetElement, Map, Fold, Store, Copy, push, TakeFour, ApplyLanes, DivideLanes}
 use Rattle.lift_ir.specs.Scalars.{at_index}
 use Rattle.printed_form.specs.Arguments.{private_arrays, marks_in}
 use Rattle.printed_form.specs.Counts.{Count, more, held_count, let_variables, load_count, variable_count, private_count}
 use Rattle.printed_form.specs.Marks.{Mark, Spot, Marks, AreFourCells, laid_in, held_marks, loaded_marks}
 use Rattle.printed_form.specs.Expressions.{Expr, OneWord, FourWords, held, exprs}
 
+-- a dimension, as a kernel has it
+abbrev pub dimension_of : Dimension → kernel.Dimension
+dimension_of X = in_kernel.X
+dimension_of Y = in_kernel.Y
+
 -- where an item's turns of a map of a kind begin
 abbrev pub start_of : Kind → Start
-start_of Global = FromGlobalId X
-start_of WorkGroup = FromGroupId X
-start_of Local = FromLocalId X
+start_of (Over level.Launch d) = FromGlobalId (dimension_of d)
+start_of (Over level.Groups d) = FromGroupId (dimension_of d)
+start_of (Over level.Items d) = FromLocalId (dimension_of d)
 start_of Sequential = FromZero
-start_of GlobalRows = FromGlobalId Y
-start_of WorkGroupRows = FromGroupId Y
-start_of LocalRows = FromLocalId Y
 
 -- and how far they are from one another
 abbrev pub stride_of : Kind → Stride
-stride_of Global = ByGlobalSize X
-stride_of WorkGroup = ByGroupCount X
-stride_of Local = ByLocalSize X
+stride_of (Over level.Launch d) = ByGlobalSize (dimension_of d)
+stride_of (Over level.Groups d) = ByGroupCount (dimension_of d)
+stride_of (Over level.Items d) = ByLocalSize (dimension_of d)
 stride_of Sequential = ByOne
-stride_of GlobalRows = ByGlobalSize Y
-stride_of WorkGroupRows = ByGroupCount Y
-stride_of LocalRows = ByLocalSize Y
 
 -- a turn that an item takes of a loop: from its start on, stride by stride
 abbrev pub IsTurn : Launch → (item : ℕ) → Start → Stride → ℕ → Type 0

@@ -1,12 +1,14 @@
 -- By which statement a map's turns are made, and which code is printed for a map in each form: with
 -- a fixed local size some maps need no loop.
-use Rattle.std.specs.Prelude.{◌≡◌, ◌≤◌, ◌<◌, ◌^◌, ℕ, Bool, true, false, List, [], ◌∷◌, ◌++◌}
-use Rattle.kernel_tree.specs.Formula.{Formula}
-use Rattle.kernel_tree.specs.Code.{start_value, Code, End, Loops, Guards}
+use Rattle.std.specs.Prelude.{◌≡◌, ◌≤◌, ◌<◌, ◌^◌, ℕ, Bool, true, false, List, [], ◌∷◌, ◌++◌, Some}
+use Rattle.lift_tree.specs.declared.term.Level.TheVariants.{Groups}
+use Rattle.lift_tree.specs.declared.term.Dimension.{Dimension}
+use Rattle.kernel_tree.specs.Formula.{Formula, bound_value}
+use Rattle.kernel_tree.specs.Code.{Start, Stride, start_value, Code, End, Loops, Guards}
 use Rattle.kernel_tree.specs.Launch.{Launch, ids_of}
-use Rattle.lift_ir.specs.Terms.{Kind, WorkGroup}
+use Rattle.lift_ir.specs.Terms.{Kind, Over}
 use Rattle.printed_form.specs.Marks.{Marks}
-use Rattle.printed_form.specs.Form.{start_of, stride_of, IsTurnOf, IsLength}
+use Rattle.printed_form.specs.Form.{start_of, stride_of, IsTurn}
 
 -- a loop; an `if`, of which an item takes one turn at most; or no statement, where it takes just
 -- one
@@ -27,10 +29,18 @@ abbrev pub form_over_groups : (once : Bool) → MapForm
 form_over_groups false = Looped
 form_over_groups true = Guarded
 
--- and its statement, with nothing behind it
-abbrev pub statement_over_groups : (once : Bool) → (bound : Formula) → (body : Code) → Code
-statement_over_groups false b body = Loops (start_of WorkGroup) b (stride_of WorkGroup) body End
-statement_over_groups true b body = Guards (start_of WorkGroup) b body End
+-- the statement of a map in a form, with nothing behind it
+abbrev pub statement_of : MapForm → Start → Stride → (bound : Formula) → (body : Code) → Code
+statement_of Looped s c b body = Loops s b c body End
+statement_of Guarded s c b body = Guards s b body End
+statement_of Alone s c b body = body
+
+-- and of a map over work-groups along this dimension
+abbrev pub statement_over_groups : Dimension → (once : Bool) → (bound : Formula) → (body : Code)
+    → Code
+statement_over_groups d once b body =
+    statement_of (form_over_groups once) (start_of (Over Groups d)) (stride_of (Over Groups d)) b
+    body
 
 -- the variables of the loops around a map's turn: a loop alone has one
 abbrev pub variables_in : MapForm → (around : List ℕ) → (turn : ℕ) → List ℕ
@@ -53,6 +63,21 @@ pub record MakeTurns {A : Type 0} (forms : MapForms A) (num : A → ℕ) (l : La
 abbrev pub TurnCode : Type 1
 TurnCode = (variables : List ℕ) → (turn : ℕ) → (code rest : Code) → Type 0
 
+-- a map over n in a form, each of whose turns that the item takes, from this start on by this
+-- stride, is printed so
+abbrev pub AreTurnsFrom : Launch → (item : ℕ) → MapForm → Start → Stride → (around : List ℕ) → ℕ
+    → TurnCode → (code rest : Code) → Type 0
+AreTurnsFrom l item Looped s c ts n B code rest =
+    (b : Formula) × (body : Code) × (code ≡ Loops s b c body rest)
+    × (bound_value l.sizes b ≡ Some n)
+    × ((i : ℕ) → i < n → IsTurn l item s c i → B (ts ++ i ∷ []) i body End)
+AreTurnsFrom l item Guarded s c ts n B code rest =
+    (b : Formula) × (body : Code) × (code ≡ Guards s b body rest)
+    × (bound_value l.sizes b ≡ Some n)
+    × ((i : ℕ) → i < n → i ≡ start_value (ids_of l item) s → B ts i body End)
+AreTurnsFrom l item Alone s c ts n B code rest =
+    (i : ℕ) → i < n → i ≡ start_value (ids_of l item) s → B ts i code rest
+
 -- as this item comes there
 module _ (l : Launch) (item : ℕ) (ins : ℕ → Marks) where
   -- a turn that the item takes of a map of a kind in an `if`: its id
@@ -62,13 +87,5 @@ module _ (l : Launch) (item : ℕ) (ins : ℕ → Marks) where
   -- a map of a kind over n in a form, each of whose turns that the item takes is printed so
   abbrev pub AreTurns : MapForm → Kind → (around : List ℕ) → ℕ → TurnCode → (code rest : Code)
       → Type 0
-  AreTurns Looped k ts n B code rest =
-      (b : Formula) × (body : Code) × (code ≡ Loops (start_of k) b (stride_of k) body rest)
-      × IsLength l ins b n
-      × ((i : ℕ) → i < n → IsTurnOf l item k i → B (ts ++ i ∷ []) i body End)
-  AreTurns Guarded k ts n B code rest =
-      (b : Formula) × (body : Code) × (code ≡ Guards (start_of k) b body rest)
-      × IsLength l ins b n
-      × ((i : ℕ) → i < n → IsOwnTurn k i → B ts i body End)
-  AreTurns Alone k ts n B code rest =
-      (i : ℕ) → i < n → IsOwnTurn k i → B ts i code rest
+  AreTurns form k ts n B code rest =
+      AreTurnsFrom l item form (start_of k) (stride_of k) ts n B code rest

@@ -1,12 +1,14 @@
 -- A kernel printed for a term: by one work-item, or for a map over the launch.
 use Rattle.std.specs.Prelude.{◌≡◌, ℕ, ◌+◌, ◌<◌, ◌^◌, ◌⊎◌, Bool, false, List, [], ◌∷◌, ◌++◌, length, map, replicate, slice_index}
+use Rattle.lift_tree.specs.declared.term.Level.TheVariants as level
+use Rattle.lift_tree.specs.declared.term.Dimension.TheVariants.{X, Y}
 use Rattle.kernel_tree.specs.Code.{Input, Output, Code, End, Kernel}
 use Rattle.kernel_tree.specs.Launch as launch
 use Rattle.kernel_tree.specs.Launch.{Launch, Cells, IsWhole, item_count}
 use Rattle.kernel_tree.specs.Device.{row}
 use Rattle.lift_ir.specs.Types.{Ty, width, size, IsPosition, IsFlat}
 use Rattle.lift_ir.specs.Layouts.{result_position, IsInvertible}
-use Rattle.lift_ir.specs.Terms.{Global, GlobalRows, PrivateMemory, Term, Reshape, LetArray, Map, push, HasType, no_type}
+use Rattle.lift_ir.specs.Terms.{Over, PrivateMemory, Term, Reshape, LetArray, Map, push, HasType, no_type}
 use Rattle.lift_ir.specs.Owner.{is_in_rows}
 use Rattle.lift_ir.specs.Scalars.{Scalars, at_index}
 use Rattle.printed_form.specs.Counts.{Count, more, no_variables, load_count, variable_count, private_count, copy_lengths}
@@ -20,9 +22,9 @@ abbrev pub IsAlongRow : {A : Type 0} → Launch → (item : ℕ) → (ℕ → Ma
 IsAlongRow l item ins num ts env a n (Reshape y t) w code rest =
     IsInvertible y
     × IsAlongRow l item ins num ts env a n t (λ cs q. w cs (result_position num y q)) code rest
-IsAlongRow l item ins num ts env a n (Map Global len loads xs b) w code rest =
+IsAlongRow l item ins num ts env a n (Map (Over level.Launch X) len loads xs b) w code rest =
     (mid : Code) × IsArgumentWork l item ins num ts env a n xs code mid
-    × IsLoop l item ins Global (num len)
+    × IsLoop l item ins (Over level.Launch X) (num len)
     (λ i body. (inner : Code)
     × IsLoaded l item ins (ts ++ i ∷ []) loads (at_index i (argument_marks l ins num env a xs))
     (more n (variable_count xs)) body inner
@@ -46,11 +48,11 @@ IsOverLaunch l item ins num env a n (LetArray v b) w code rest =
     × IsOverLaunch l item ins num (push (argument_marks l ins num env a v) env)
     (a + private_count v)
     (more n (variable_count v)) b w mid rest
-IsOverLaunch l item ins num env a n (Map Global len loads xs b) w code rest =
-    IsAlongRow l item ins num [] env a n (Map Global len loads xs b) w code rest
-IsOverLaunch l item ins num env a n (Map GlobalRows len loads xs b) w code rest =
+IsOverLaunch l item ins num env a n (Map (Over level.Launch X) len loads xs b) w code rest =
+    IsAlongRow l item ins num [] env a n (Map (Over level.Launch X) len loads xs b) w code rest
+IsOverLaunch l item ins num env a n (Map (Over level.Launch Y) len loads xs b) w code rest =
     (mid : Code) × IsArgumentWork l item ins num [] env a n xs code mid
-    × IsLoop l item ins GlobalRows (num len)
+    × IsLoop l item ins (Over level.Launch Y) (num len)
     (λ i body. (inner : Code)
     × IsLoaded l item ins ([] ++ i ∷ []) loads (at_index i (argument_marks l ins num env a xs))
     (more n (variable_count xs)) body inner

@@ -1,12 +1,13 @@
 -- What pieces of printed code count: assignments nothing, loads and stores by where scalars lie.
 use Rattle.std.proofs.Common.{◌≡◌, ℕ, zero, suc, ◌+◌, ◌*◌, ◌<◌, ◌≤◌, Bool, true, false, List, [], ◌∷◌, Option, refl, sym, ap, ◌∙◌, ⊎_elim, arith}
 use Rattle.std.proofs.lemmas.Bool.{cases_lt}
+use Rattle.lift_tree.specs.declared.term.Level.TheVariants as level
 use Rattle.kernel_tree.specs.Bound.{or_zero}
 use Rattle.kernel_tree.specs.Code.{Array, Input, Output, Local as LocalArray, Private, Statement, Assigns, AssignsFour, Loads, LoadsFour, Stores, StoresFour, Syncs, start_value, stride_value, Code}
 use Rattle.kernel_tree.specs.Formula.{Formula, Lanes, Ids}
 use Rattle.kernel_tree.specs.Launch.{Launch, ids_of}
 use Rattle.lift_ir.specs.Types.{Ty, Scalar, PairOf, ArrayOf}
-use Rattle.lift_ir.specs.Terms.{LoadSet, Skip, Take, TakeFour, Each, Kind, Global, WorkGroup, Local, GlobalRows, WorkGroupRows, LocalRows, Sequential, Term, Literal, Bound, Apply, ApplyNumber, ApplyLanes, DivideLanes, Select, Both, Project, LetElement, push}
+use Rattle.lift_ir.specs.Terms.{LoadSet, Skip, Take, TakeFour, Each, Kind, Over, Sequential, Term, Literal, Bound, Apply, ApplyNumber, ApplyLanes, DivideLanes, Select, Both, Project, LetElement, push}
 use Rattle.lift_ir.specs.Scalars.{by_side}
 use Rattle.printed_form.specs.Counts.{Count, more, held_count, let_variables, load_count}
 use Rattle.printed_form.specs.Expressions.{Expr, held, exprs}
@@ -47,12 +48,9 @@ LieIn x r = (cs : List Bool) (q : List ℕ) → mark_region (x cs q) ≡ r cs
 
 -- the turns of a map are those of its loop
 turns_are : (ids : Ids) (k : Kind) (n : ℕ) → turns_below (start_value ids (start_of k)) n (stride_value ids (stride_of k)) ≡ turns_of ids k n
-turns_are ids Global n = refl
-turns_are ids WorkGroup n = refl
-turns_are ids Local n = refl
-turns_are ids GlobalRows n = refl
-turns_are ids WorkGroupRows n = refl
-turns_are ids LocalRows n = refl
+turns_are ids (Over level.Launch _) n = refl
+turns_are ids (Over level.Groups _) n = refl
+turns_are ids (Over level.Items _) n = refl
 turns_are ids Sequential n = refl
 
 -- what stands for each binder

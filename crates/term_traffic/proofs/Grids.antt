@@ -2,6 +2,8 @@
 use Rattle.std.proofs.Common.{◌≡◌, ℕ, suc, ◌+◌, ◌*◌, ◌/◌, ◌%◌, ◌<◌, ◌^◌, true, false, List, [], ◌∷◌, refl, sym, ap, subst, arith}
 use Rattle.std.proofs.Math.Nat.{mod-lt}
 use Rattle.std.proofs.lemmas.Nat.{div-mul-add, mod-mul-add}
+use Rattle.lift_tree.specs.declared.term.Level.TheVariants.{Groups, Items}
+use Rattle.lift_tree.specs.declared.term.Dimension.TheVariants as dimension
 use Rattle.kernel_tree.specs.declared.tree.Dimension.TheVariants.{X, Y}
 use Rattle.kernel_tree.specs.Code.{Local as LocalArray, FromGroupId, FromLocalId, ByGroupCount, ByLocalSize, Statement, Code, End}
 use Rattle.kernel_tree.specs.Launch.{Launch, IsWhole, item_count, ids_of, column_of, row_of}
@@ -9,7 +11,7 @@ use Rattle.kernel_tree.proofs.Grouping.{some_items}
 use Rattle.barrier_placement.specs.Fencing.{Fencing, stands}
 use Rattle.barrier_placement.specs.Separates.{bit}
 use Rattle.lift_ir.specs.Layouts.{result_position}
-use Rattle.lift_ir.specs.Terms.{LoadSet, WorkGroup, Local, WorkGroupRows, LocalRows, LocalMemory, PrivateMemory, Term, Bound, Source, Both, Project, Reshape, LetArray, Map, Copy, push}
+use Rattle.lift_ir.specs.Terms.{LoadSet, Over, LocalMemory, PrivateMemory, Term, Bound, Source, Both, Project, Reshape, LetArray, Map, Copy, push}
 use Rattle.lift_ir.specs.Scalars.{at_index}
 use Rattle.printed_form.specs.Arguments.{marks_in, local_arrays}
 use Rattle.printed_form.specs.Counts.{Count, more, no_variables, load_count, variable_count, private_count, local_count}
@@ -74,7 +76,7 @@ module _ (weight : Statement → ℕ) (load store : Region → ℕ) (sync : ℕ)
         → total weight load store sync counts l item code ≡ written_traffic load store num (ids_of l item) regions t r + total weight load store sync counts l item rest
     along_row k a n env regions (Reshape y t) w r ts row code rest stand few all goes h =
         along_row k a n env regions t (λ cs p. w cs (result_position num y p)) r ts row code rest stand.1 few all (λ cs p. goes cs (result_position num y p)) h.1
-    along_row k a n env regions (Map Local m loads xs b) w r ts row code rest stand few all goes h =
+    along_row k a n env regions (Map (Over Items dimension.X) m loads xs b) w r ts row code rest stand few all goes h =
         let none = idle load store num l item regions xs stand.0 in
         let lie = argument_lies num ins inputs LocalMemory env regions k xs all (of_inputs LocalMemory xs stand.0) in
         let made = turned weight load store sync counts l item turning (FromLocalId X) (ByLocalSize X) column_below (num m) _ (loads_in load loads (regions_of regions xs) + written_traffic load store num (ids_of l item) (push (regions_left loads (regions_of regions xs)) regions) b r) ts
@@ -92,7 +94,7 @@ module _ (weight : Statement → ℕ) (load store : Region → ℕ) (sync : ℕ)
       local_nest : (env : (turn var : ℕ) → Marks) (regions : ℕ → Regions) (u : Used) (n : A) (loads : LoadSet) (marks : ℕ → Marks) (from : Regions) (b : Term A) (w : (turn : ℕ) → Marks) (r : Regions) (code rest : Code) → num n < 2 ^ 31 → StandsAlongRow b → HasShortLoops num b → AllLieIn (env i) regions → LieIn (marks i) from → LieIn (w i) r
           → IsLocalNest num forms l ins fence rows_form columns_form grid env u n loads marks b w code rest
           → total weight load store sync counts l item code
-          ≡ turns_of (ids_of l item) LocalRows (num n) * (loads_in load loads from + written_traffic load store num (ids_of l item) (push (regions_left loads from) regions) b r) + total weight load store sync counts l item rest
+          ≡ turns_of (ids_of l item) (Over Items dimension.Y) (num n) * (loads_in load loads from + written_traffic load store num (ids_of l item) (push (regions_left loads from) regions) b r) + total weight load store sync counts l item rest
       local_nest env regions u n loads marks from b w r code rest short stand few all lie goes h =
           turned weight load store sync counts l item turning (FromLocalId Y) (ByLocalSize Y) row_below (num n) _ (loads_in load loads from + written_traffic load store num (ids_of l item) (push (regions_left loads from) regions) b r) (around_turn num forms l ins fence rows_form columns_form grid i)
           (λ ts j lt before after t.
@@ -150,7 +152,7 @@ module _ (weight : Statement → ℕ) (load store : Region → ℕ) (sync : ℕ)
             (pushed (marks_of num ins env u.locals v i) (regions_of regions v) (env i) regions (lies env regions u v all stand.0) all) goes h.2 in
             let e = later u.phases (phases_in v) (phases_in b) in
             omega arith
-        grid_written env regions u (Map LocalRows n loads xs b) w r code rest stand few all goes h =
+        grid_written env regions u (Map (Over Items dimension.Y) n loads xs b) w r code rest stand few all goes h =
             let first = grid_argument env regions u xs code h.0 stand.0 few.1 all h.2 in
             let fences = past weight load store sync counts l item (fence (u.phases + phases_in xs)) h.0 h.1 h.3 in
             let e : sync * barriers_to fence (u.phases + (phases_in xs + 1)) ≡ sync * (barriers_to fence (u.phases + phases_in xs) + bit (stands (fence (u.phases + phases_in xs)))) = ap (λ z. sync * barriers_to fence z) (let p : u.phases + (phases_in xs + 1) ≡ suc (u.phases + phases_in xs) = omega arith in p) in
@@ -184,7 +186,7 @@ module _ (weight : Statement → ℕ) (load store : Region → ℕ) (sync : ℕ)
           → total weight load store sync counts l item code ≡ written_traffic load store num (ids_of l item) regions t r + sync * (row_turns num (ids_of l item) t * barriers_to fence (suc (phases_along t)))
       along_groups rows_form rows n env regions (Reshape y t) w r code row inside in_row stand few all goes h =
           along_groups rows_form rows n env regions t (λ q cs p. w q cs (result_position num y p)) r code row inside in_row stand.1 few all (λ q cs p. goes q cs (result_position num y p)) h.1
-      along_groups rows_form rows n env regions (Map WorkGroup m loads xs b) w r code row inside in_row stand few all goes h =
+      along_groups rows_form rows n env regions (Map (Over Groups dimension.X) m loads xs b) w r code row inside in_row stand few all goes h =
           let lie = λ (q : ℕ). argument_lies num ins inputs PrivateMemory (env q) regions 0 xs (all q) (of_inputs PrivateMemory xs stand.0) in
           let none = idle load store num l item regions xs stand.0 in
           let made = over_form weight load store sync counts l item turning (FromGroupId X) (ByGroupCount X) some_columns (forms.columns.once m) (num m) (make.one_column m) h.0 h.1
@@ -194,7 +196,7 @@ module _ (weight : Statement → ℕ) (load store : Region → ℕ) (sync : ℕ)
           n (λ i. env (i / num m)) regions loads (λ i. at_index (i % num m) (argument_marks l ins num (env (i / num m)) 0 xs)) (regions_of regions xs) b (λ i. at_index (i % num m) (w (i / num m))) r h.1
           stand.1 few.2 (all ((row * num m + j) / num m)) (λ cs q. lie ((row * num m + j) / num m) cs ((row * num m + j) % num m ∷ q)) (λ cs q. goes ((row * num m + j) / num m) cs ((row * num m + j) % num m ∷ q)) h.4) in
           let is = ap (total weight load store sync counts l item) h.2 in
-          let t = turns_of (ids_of l item) WorkGroup (num m) in
+          let t = turns_of (ids_of l item) (Over Groups dimension.X) (num m) in
           let each = loads_in load loads (regions_of regions xs) + written_traffic load store num (ids_of l item) (push (regions_left loads (regions_of regions xs)) regions) b r in
           let s = barriers_to fence (suc (phases_in b)) in
           let e : t * (each + sync * s) ≡ t * each + sync * (t * s) = parted t each s in
@@ -210,7 +212,7 @@ module _ (weight : Statement → ℕ) (load store : Region → ℕ) (sync : ℕ)
           (pushed (argument_marks l ins num env 0 v) (regions_of regions v) env regions (argument_lies num ins inputs PrivateMemory env regions 0 v all (of_inputs PrivateMemory v stand.0)) all) goes h in
           let none = idle load store num l item regions v stand.0 in
           omega arith
-      over_grid env regions (Map WorkGroupRows n loads xs b) w r code stand few all goes h =
+      over_grid env regions (Map (Over Groups dimension.Y) n loads xs b) w r code stand few all goes h =
           let lie = argument_lies num ins inputs PrivateMemory env regions 0 xs all (of_inputs PrivateMemory xs stand.0) in
           let none = idle load store num l item regions xs stand.0 in
           let m = loads_in load loads (regions_of regions xs) + written_traffic load store num (ids_of l item) (push (regions_left loads (regions_of regions xs)) regions) b r in
@@ -224,9 +226,9 @@ module _ (weight : Statement → ℕ) (load store : Region → ℕ) (sync : ℕ)
           (λ q cs p. goes cs (q ∷ p)) h.6 in
           omega arith) in
           let is = ap (total weight load store sync counts l item) h.3 in
-          let t = turns_of (ids_of l item) WorkGroupRows (num n) in
+          let t = turns_of (ids_of l item) (Over Groups dimension.Y) (num n) in
           let e : t * (m + sync * s) ≡ t * m + sync * (t * s) = parted t m s in
-          let f : sync * (t * s) ≡ sync * releases_of num (ids_of l item) fence (Map WorkGroupRows n loads xs b) = ap (λ z. sync * z) (together t (row_turns num (ids_of l item) b) (barriers_to fence (suc (phases_along b)))) in
+          let f : sync * (t * s) ≡ sync * releases_of num (ids_of l item) fence (Map (Over Groups dimension.Y) n loads xs b) = ap (λ z. sync * z) (together t (row_turns num (ids_of l item) b) (barriers_to fence (suc (phases_along b)))) in
           omega arith
         where
           together : (a b c : ℕ) → a * (b * c) ≡ a * b * c

@@ -1,8 +1,9 @@
 -- What the code of a map over work-groups counts, with its barriers.
-use Rattle.std.proofs.Common.{◌≡◌, ℕ, suc, ◌+◌, ◌*◌, ◌/◌, ◌<◌, ◌^◌, Bool, true, false, List, [], ◌∷◌, refl, ap, ◌∙◌, subst, arith}
+use Rattle.std.proofs.Common.{◌≡◌, ℕ, suc, ◌+◌, ◌*◌, ◌/◌, ◌<◌, ◌^◌, true, false, List, [], ◌∷◌, refl, ap, subst, arith}
 use Rattle.std.proofs.Math.Nat.{mod-lt}
+use Rattle.lift_tree.specs.declared.term.Level.TheVariants as level
+use Rattle.lift_tree.specs.declared.term.Dimension.TheVariants as dimension
 use Rattle.kernel_tree.specs.declared.tree.Dimension.TheVariants.{X}
-use Rattle.kernel_tree.specs.Formula.{Formula}
 use Rattle.kernel_tree.specs.Code.{Local as LocalArray, FromGroupId, FromLocalId, ByGroupCount, ByLocalSize, Statement, Code, End}
 use Rattle.kernel_tree.specs.Launch.{Launch, IsWhole, item_count, ids_of, column_of}
 use Rattle.kernel_tree.proofs.Grouping.{some_items}
@@ -10,13 +11,12 @@ use Rattle.barrier_placement.specs.Fencing.{Fencing, stands}
 use Rattle.barrier_placement.specs.Separates.{bit}
 use Rattle.lift_ir.specs.Types.{Ty}
 use Rattle.lift_ir.specs.Layouts.{result_position}
-use Rattle.lift_ir.specs.Terms.{LoadSet, Global, WorkGroup, Local, GlobalRows, WorkGroupRows, LocalRows, Sequential, Space, LocalMemory, PrivateMemory, Term, Bound, Source, Both, Project, Reshape, LetArray, Map, Copy, push}
+use Rattle.lift_ir.specs.Terms.{LoadSet, Over, Sequential, Space, LocalMemory, PrivateMemory, Term, Bound, Source, Both, Project, Reshape, LetArray, Map, Copy, push}
 use Rattle.lift_ir.specs.Scalars.{at_index}
 use Rattle.printed_form.specs.Counts.{more, no_variables, load_count, local_count}
 use Rattle.printed_form.specs.Form.{argument_marks, IsTurnOf}
-use Rattle.printed_form.specs.MapForms.{MapForm, Looped, Guarded, Alone, MapForms, form_over_groups, statement_over_groups, variables_in, MakesTurns, MakeTurns, TurnCode, AreTurns}
+use Rattle.printed_form.specs.MapForms.{MapForm, Looped, Guarded, Alone, MapForms, form_over_groups, variables_in, MakesTurns, MakeTurns, TurnCode, AreTurns}
 use Rattle.printed_form.specs.Marks.{Marks, laid_in, loaded_marks}
-use Rattle.group_phases.specs.Strides.{statement_of}
 use Rattle.group_form.specs.Form.{Used, used_after, IsLocalMap, IsGroupArgument, IsGroupWritten, IsGroupTurn, IsOverGroups}
 use Rattle.group_form.specs.Forms.{StandsOverGroups, IsOfInputs}
 use Rattle.group_form.specs.Stages.{marks_of}
@@ -66,12 +66,12 @@ module _ (weight : Statement → ℕ) (load store : Region → ℕ) (sync : ℕ)
 
   -- a local map's turns, in whatever form
   local_turned : (n : ℕ) (B : TurnCode) (m : ℕ) (ts : List ℕ) → ((vs : List ℕ) (i : ℕ) → i < n → (code rest : Code) → B vs i code rest → total weight load store sync counts l item code ≡ m + total weight load store sync counts l item rest)
-      → (f : MapForm) → MakesTurns f n l → (code rest : Code) → AreTurns l item ins f Local ts n B code rest → total weight load store sync counts l item code ≡ turns_of (ids_of l item) Local n * m + total weight load store sync counts l item rest
+      → (f : MapForm) → MakesTurns f n l → (code rest : Code) → AreTurns l item ins f (Over level.Items dimension.X) ts n B code rest → total weight load store sync counts l item code ≡ turns_of (ids_of l item) (Over level.Items dimension.X) n * m + total weight load store sync counts l item rest
   local_turned n B m ts each Looped makes code rest h = turned weight load store sync counts l item turning (FromLocalId X) (ByLocalSize X) local_below n B m ts each Looped makes code rest h
   local_turned n B m ts each Guarded makes code rest h = turned weight load store sync counts l item turning (FromLocalId X) (ByLocalSize X) local_below n B m ts each Guarded makes code rest h
   local_turned n B m ts each Alone makes code rest h = turned weight load store sync counts l item turning (FromLocalId X) (ByLocalSize X) local_below n B m ts each Alone makes code rest h
 
-  module _ {A : Type 0} (num : A → ℕ) (forms : MapForms A) (make : MakeTurns forms num l) (fence : ℕ → Fencing) (outer : MapForm) (turns i : ℕ) (below : i < turns) (turn : IsTurnOf l item WorkGroup i) where
+  module _ {A : Type 0} (num : A → ℕ) (forms : MapForms A) (make : MakeTurns forms num l) (fence : ℕ → Fencing) (outer : MapForm) (turns i : ℕ) (below : i < turns) (turn : IsTurnOf l item (Over level.Groups dimension.X) i) where
     local_copies : (env : (turn var : ℕ) → Marks) (u : Used) (t : Term A) (code rest : Code) → IsGroupArgument num forms l ins fence outer turns env u t code rest → CopiesTo LocalMemory t
     local_copies env u (Bound v) code rest h = tt
     local_copies env u (Source v) code rest h = tt
@@ -108,7 +108,7 @@ module _ (weight : Statement → ℕ) (load store : Region → ℕ) (sync : ℕ)
     -- a local map, at the group's turn
     local_map : (env : (turn var : ℕ) → Marks) (regions : ℕ → Regions) (u : Used) (n : A) (loads : LoadSet) (marks : ℕ → Marks) (from : Regions) (b : Term A) (w : (turn : ℕ) → Marks) (r : Regions) (code rest : Code) → num n < 2 ^ 31 → AllLieIn (env i) regions → LieIn (marks i) from → LieIn (w i) r → IsLocalMap num forms l ins fence outer turns env u n loads marks b w code rest
         → total weight load store sync counts l item code
-        ≡ turns_of (ids_of l item) Local (num n) * (loads_in load loads from + written_traffic load store num (ids_of l item) (push (regions_left loads from) regions) b r) + total weight load store sync counts l item rest
+        ≡ turns_of (ids_of l item) (Over level.Items dimension.X) (num n) * (loads_in load loads from + written_traffic load store num (ids_of l item) (push (regions_left loads from) regions) b r) + total weight load store sync counts l item rest
     local_map env regions u n loads marks from b w r code rest short all lie goes h =
         local_turned (num n) _ (loads_in load loads from + written_traffic load store num (ids_of l item) (push (regions_left loads from) regions) b r) (variables_in outer [] i)
         (λ ts j lt body last t.
@@ -152,18 +152,14 @@ module _ (weight : Statement → ℕ) (load store : Region → ℕ) (sync : ℕ)
           (pushed (marks_of num ins env u.locals v i) (regions_of regions v) (env i) regions (lies env regions u v code h.0 all h.1) all) goes h.2 in
           let e = later u.phases (phases_in v) (phases_in b) in
           omega arith
-      group_written env regions u (Map Local n loads xs b) w r code rest few all goes h =
+      group_written env regions u (Map (Over level.Items dimension.X) n loads xs b) w r code rest few all goes h =
           let first = group_argument env regions u xs code h.0 few.1 all h.2 in
           let fences = past weight load store sync counts l item (fence (u.phases + phases_in xs)) h.0 h.1 h.3 in
           let e : sync * barriers_to fence (u.phases + (phases_in xs + 1)) ≡ sync * (barriers_to fence (u.phases + phases_in xs) + bit (stands (fence (u.phases + phases_in xs)))) = ap (λ z. sync * barriers_to fence z) (let p : u.phases + (phases_in xs + 1) ≡ suc (u.phases + phases_in xs) = omega arith in p) in
           let f : sync * (barriers_to fence (u.phases + phases_in xs) + bit (stands (fence (u.phases + phases_in xs)))) ≡ sync * barriers_to fence (u.phases + phases_in xs) + sync * bit (stands (fence (u.phases + phases_in xs))) = distributed (barriers_to fence (u.phases + phases_in xs)) (bit (stands (fence (u.phases + phases_in xs)))) in
           let body = local_map env regions (used_after u xs) n loads (marks_of num ins env u.locals xs) (regions_of regions xs) b w r h.1 rest few.0 all (lies env regions u xs code h.0 all h.2) goes h.4 in
           omega arith
-      group_written env regions u (Map Global n loads xs b) w r code rest few all goes h = absurd h
-      group_written env regions u (Map WorkGroup n loads xs b) w r code rest few all goes h = absurd h
-      group_written env regions u (Map GlobalRows n loads xs b) w r code rest few all goes h = absurd h
-      group_written env regions u (Map WorkGroupRows n loads xs b) w r code rest few all goes h = absurd h
-      group_written env regions u (Map LocalRows n loads xs b) w r code rest few all goes h = absurd h
+      group_written env regions u (Map (Over _ _) n loads xs b) w r code rest few all goes h = absurd h
       group_written env regions u (Map Sequential n loads xs b) w r code rest few all goes h = absurd h
       group_written env regions u _ w r code rest few all goes h = absurd h
 
@@ -173,7 +169,7 @@ module _ (weight : Statement → ℕ) (load store : Region → ℕ) (sync : ℕ)
     each_turn regions loads from b r =
         loads_in load loads from + written_traffic load store num (ids_of l item) (push (regions_left loads from) regions) b r + sync * barriers_to fence (suc (phases_in b))
 
-    turn_counts : (outer : MapForm) (turns i : ℕ) → i < turns → IsTurnOf l item WorkGroup i → (env : ℕ → Marks) (regions : ℕ → Regions) (loads : LoadSet) (marks : Marks) (from : Regions) (b : Term A) (w : Marks) (r : Regions) (body : Code)
+    turn_counts : (outer : MapForm) (turns i : ℕ) → i < turns → IsTurnOf l item (Over level.Groups dimension.X) i → (env : ℕ → Marks) (regions : ℕ → Regions) (loads : LoadSet) (marks : Marks) (from : Regions) (b : Term A) (w : Marks) (r : Regions) (body : Code)
         → HasShortLoops num b → AllLieIn env regions → LieIn marks from → LieIn w r → IsGroupTurn num forms l ins fence outer turns env loads marks b w body → total weight load store sync counts l item body ≡ each_turn regions loads from b r
     turn_counts outer turns i below turn env regions loads marks from b w r body few all lie goes h =
         let one = loaded weight load store sync counts l item ins (variables_in outer [] i) loads (at_index i marks) from no_variables body h.0 (λ cs q. lie cs (i ∷ q)) (h.2 item i within below turn) in
@@ -187,10 +183,6 @@ module _ (weight : Statement → ℕ) (load store : Region → ℕ) (sync : ℕ)
         let added = distributed num forms make fence outer turns i below turn (barriers_to fence (phases_in b)) (bit (stands (fence (phases_in b)))) in
         omega arith
 
-    same_statement : (once_only : Bool) (bound : Formula) (body : Code) → statement_over_groups once_only bound body ≡ statement_of (form_over_groups once_only) (FromGroupId X) (ByGroupCount X) bound body
-    same_statement false bound body = refl
-    same_statement true bound body = refl
-
     pub over_groups : (env : ℕ → Marks) (regions : ℕ → Regions) (t : Term A) (w : Marks) (r : Regions) (code : Code) → StandsOverGroups t → HasShortLoops num t → AllLieIn env regions → LieIn w r → IsOverGroups num forms l ins fence env t w code
         → total weight load store sync counts l item code ≡ written_traffic load store num (ids_of l item) regions t r + sync * releases_of num (ids_of l item) fence t
     over_groups env regions (Reshape y t) w r code stand few all goes h =
@@ -200,13 +192,13 @@ module _ (weight : Statement → ℕ) (load store : Region → ℕ) (sync : ℕ)
         (pushed (argument_marks l ins num env 0 v) (regions_of regions v) env regions (argument_lies num ins inputs PrivateMemory env regions 0 v all (of_inputs PrivateMemory v stand.0)) all) goes h in
         let none = idle load store num l item regions v stand.0 in
         omega arith
-    over_groups env regions (Map WorkGroup n loads xs b) w r code stand few all goes h =
+    over_groups env regions (Map (Over level.Groups dimension.X) n loads xs b) w r code stand few all goes h =
         let lie = argument_lies num ins inputs PrivateMemory env regions 0 xs all (of_inputs PrivateMemory xs stand.0) in
         let none = idle load store num l item regions xs stand.0 in
         let made = over_form weight load store sync counts l item turning (FromGroupId X) (ByGroupCount X) some_groups (forms.once n) (num n) (make.once n) h.0 h.1 (each_turn regions loads (regions_of regions xs) b r) h.3
         (λ i below turn. turn_counts (form_over_groups (forms.once n)) (num n) i below turn env regions loads (argument_marks l ins num env 0 xs) (regions_of regions xs) b w r h.1 few.2 all lie goes h.4) in
-        let is = ap (total weight load store sync counts l item) (h.2 ∙ same_statement (forms.once n) h.0 h.1) in
-        let t = turns_of (ids_of l item) WorkGroup (num n) in
+        let is = ap (total weight load store sync counts l item) h.2 in
+        let t = turns_of (ids_of l item) (Over level.Groups dimension.X) (num n) in
         let m = loads_in load loads (regions_of regions xs) + written_traffic load store num (ids_of l item) (push (regions_left loads (regions_of regions xs)) regions) b r in
         let s = barriers_to fence (suc (phases_in b)) in
         let e : t * (m + sync * s) ≡ t * m + sync * (t * s) = parted t m s in

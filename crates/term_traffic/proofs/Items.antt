@@ -1,10 +1,12 @@
 -- What the code of a term counts that work-items run each by itself.
 use Rattle.std.proofs.Common.{◌≡◌, ℕ, ◌+◌, ◌*◌, true, false, List, [], ◌∷◌, ◌++◌, refl, ap, ◌∙◌, arith}
+use Rattle.lift_tree.specs.declared.term.Level.TheVariants as level
+use Rattle.lift_tree.specs.declared.term.Dimension.TheVariants.{X, Y}
 use Rattle.kernel_tree.specs.Code.{Private, Statement, Code, End}
 use Rattle.kernel_tree.specs.Launch.{Launch, ids_of}
 use Rattle.lift_ir.specs.Types.{Ty, Scalar, PairOf, ArrayOf}
 use Rattle.lift_ir.specs.Layouts.{operand_position, result_position}
-use Rattle.lift_ir.specs.Terms.{LoadSet, Skip, Take, TakeFour, Each, Global, WorkGroup, Local, GlobalRows, WorkGroupRows, LocalRows, Sequential, Space, LocalMemory, PrivateMemory, Term, Bound, Source, Both, Project, Reshape, LetArray, LetElement, Map, Fold, Store, Copy, push}
+use Rattle.lift_ir.specs.Terms.{LoadSet, Skip, Take, TakeFour, Each, Over, Sequential, Space, LocalMemory, PrivateMemory, Term, Bound, Source, Both, Project, Reshape, LetArray, LetElement, Map, Fold, Store, Copy, push}
 use Rattle.lift_ir.specs.Scalars.{at_index}
 use Rattle.printed_form.specs.Arguments.{private_arrays, local_arrays, arrays_of, marks_in}
 use Rattle.printed_form.specs.Counts.{Count, more, held_count, let_variables, load_count, variable_count, private_count}
@@ -130,12 +132,7 @@ module _ (weight : Statement → ℕ) (load store : Region → ℕ) (sync : ℕ)
           (element_lies w r i goes) t.2 in
           omega arith) h.2 in
           omega arith
-      written_counts ts env regions a n (Map Global len loads xs b) w r code rest all goes h = absurd h
-      written_counts ts env regions a n (Map WorkGroup len loads xs b) w r code rest all goes h = absurd h
-      written_counts ts env regions a n (Map Local len loads xs b) w r code rest all goes h = absurd h
-      written_counts ts env regions a n (Map GlobalRows len loads xs b) w r code rest all goes h = absurd h
-      written_counts ts env regions a n (Map WorkGroupRows len loads xs b) w r code rest all goes h = absurd h
-      written_counts ts env regions a n (Map LocalRows len loads xs b) w r code rest all goes h = absurd h
+      written_counts ts env regions a n (Map (Over _ _) len loads xs b) w r code rest all goes h = absurd h
       written_counts ts env regions a n (Fold len loads ty xs s b) w r code rest all goes h =
           let first = argument_counts ts env regions a n xs code h.0 all h.4 in
           let lie = lies ts env regions a n xs code h.0 all h.4 in
@@ -153,11 +150,11 @@ module _ (weight : Statement → ℕ) (load store : Region → ℕ) (sync : ℕ)
         → total weight load store sync counts l item code ≡ written_traffic load store num (ids_of l item) regions t r + total weight load store sync counts l item rest
     row_counts ts env regions a n (Reshape y t) w r code rest all goes h =
         row_counts ts env regions a n t (λ cs q. w cs (result_position num y q)) r code rest all (λ cs q. goes cs (result_position num y q)) h.1
-    row_counts ts env regions a n (Map Global len loads xs b) w r code rest all goes h =
+    row_counts ts env regions a n (Map (Over level.Launch X) len loads xs b) w r code rest all goes h =
         let first = argument_counts ts env regions a n xs code h.0 all h.1 in
         let lie = lies ts env regions a n xs code h.0 all h.1 in
         let m = loads_in load loads (regions_of regions xs) + written_traffic load store num (ids_of l item) (push (regions_left loads (regions_of regions xs)) regions) b r in
-        let second = looped weight load store sync counts l item ins turning Global (num len) _ m h.0 rest
+        let second = looped weight load store sync counts l item ins turning (Over level.Launch X) (num len) _ m h.0 rest
         (λ i lt turn body t.
         let one = loaded weight load store sync counts l item ins (ts ++ i ∷ []) loads (at_index i (argument_marks l ins num env a xs)) (regions_of regions xs) (more n (variable_count xs)) body t.0 (element_lies (argument_marks l ins num env a xs) (regions_of regions xs) i lie) t.1 in
         let two = written_counts (ts ++ i ∷ []) (push (loaded_marks loads (at_index i (argument_marks l ins num env a xs)) (more n (variable_count xs))) env) (push (regions_left loads (regions_of regions xs)) regions) (a + private_count xs) (more (more n (variable_count xs)) (load_count loads)) b (at_index i w) r t.0 End
@@ -166,11 +163,7 @@ module _ (weight : Statement → ℕ) (load store : Region → ℕ) (sync : ℕ)
         omega arith) h.2 in
         omega arith
     row_counts ts env regions a n (Map Sequential len loads xs b) w r code rest all goes h = absurd h
-    row_counts ts env regions a n (Map WorkGroup len loads xs b) w r code rest all goes h = absurd h
-    row_counts ts env regions a n (Map Local len loads xs b) w r code rest all goes h = absurd h
-    row_counts ts env regions a n (Map GlobalRows len loads xs b) w r code rest all goes h = absurd h
-    row_counts ts env regions a n (Map WorkGroupRows len loads xs b) w r code rest all goes h = absurd h
-    row_counts ts env regions a n (Map LocalRows len loads xs b) w r code rest all goes h = absurd h
+    row_counts ts env regions a n (Map (Over _ _) len loads xs b) w r code rest all goes h = absurd h
     row_counts ts env regions a n _ w r code rest all goes h = absurd h
 
     pub launch_counts : (env : ℕ → Marks) (regions : ℕ → Regions) (a : ℕ) (n : Count) (t : Term A) (w : Marks) (r : Regions) (code rest : Code) → AllLieIn env regions → LieIn w r → IsOverLaunch l item ins num env a n t w code rest
@@ -182,12 +175,12 @@ module _ (weight : Statement → ℕ) (load store : Region → ℕ) (sync : ℕ)
         let second = launch_counts (push (argument_marks l ins num env a v) env) (push (regions_of regions v) regions) (a + private_count v) (more n (variable_count v)) b w r h.0 rest
         (pushed (argument_marks l ins num env a v) (regions_of regions v) env regions (lies [] env regions a n v code h.0 all h.1) all) goes h.2 in
         omega arith
-    launch_counts env regions a n (Map Global len loads xs b) w r code rest all goes h = row_counts [] env regions a n (Map Global len loads xs b) w r code rest all goes h
-    launch_counts env regions a n (Map GlobalRows len loads xs b) w r code rest all goes h =
+    launch_counts env regions a n (Map (Over level.Launch X) len loads xs b) w r code rest all goes h = row_counts [] env regions a n (Map (Over level.Launch X) len loads xs b) w r code rest all goes h
+    launch_counts env regions a n (Map (Over level.Launch Y) len loads xs b) w r code rest all goes h =
         let first = argument_counts [] env regions a n xs code h.0 all h.1 in
         let lie = lies [] env regions a n xs code h.0 all h.1 in
         let m = loads_in load loads (regions_of regions xs) + written_traffic load store num (ids_of l item) (push (regions_left loads (regions_of regions xs)) regions) b r in
-        let second = looped weight load store sync counts l item ins turning GlobalRows (num len) _ m h.0 rest
+        let second = looped weight load store sync counts l item ins turning (Over level.Launch Y) (num len) _ m h.0 rest
         (λ i lt turn body t.
         let one = loaded weight load store sync counts l item ins ([] ++ i ∷ []) loads (at_index i (argument_marks l ins num env a xs)) (regions_of regions xs) (more n (variable_count xs)) body t.0 (element_lies (argument_marks l ins num env a xs) (regions_of regions xs) i lie) t.1 in
         let two = row_counts ([] ++ i ∷ []) (push (loaded_marks loads (at_index i (argument_marks l ins num env a xs)) (more n (variable_count xs))) env) (push (regions_left loads (regions_of regions xs)) regions) (a + private_count xs) (more (more n (variable_count xs)) (load_count loads)) b (at_index i w) r t.0 End
@@ -196,10 +189,7 @@ module _ (weight : Statement → ℕ) (load store : Region → ℕ) (sync : ℕ)
         omega arith) h.2 in
         omega arith
     launch_counts env regions a n (Map Sequential len loads xs b) w r code rest all goes h = absurd h
-    launch_counts env regions a n (Map WorkGroup len loads xs b) w r code rest all goes h = absurd h
-    launch_counts env regions a n (Map Local len loads xs b) w r code rest all goes h = absurd h
-    launch_counts env regions a n (Map WorkGroupRows len loads xs b) w r code rest all goes h = absurd h
-    launch_counts env regions a n (Map LocalRows len loads xs b) w r code rest all goes h = absurd h
+    launch_counts env regions a n (Map (Over _ _) len loads xs b) w r code rest all goes h = absurd h
     launch_counts env regions a n _ w r code rest all goes h = absurd h
 
 times : (n m : ℕ) → m ≡ 0 → n * m ≡ 0

@@ -14,10 +14,12 @@ use Rattle.lift_tree.specs.Annotations.{Annotation, type_in}
 use Rattle.lift_tree.specs.Launches.{Asks}
 use Rattle.lift_tree.specs.Tree.{Tree}
 use Rattle.lift_tree.specs.Typing.{Declared}
+use Rattle.lift_tree.specs.declared.term.Level.TheVariants as level
+use Rattle.lift_tree.specs.declared.term.Dimension.TheVariants.{X, Y}
 use Rattle.lift_ir.specs.AtLaunch.{length_at, ty_at}
 use Rattle.lift_ir.specs.Forms.{Stands, StandsOverLaunch}
 use Rattle.lift_ir.specs.Lowering.{Lowered}
-use Rattle.lift_ir.specs.Terms.{Global, WorkGroup, Local, GlobalRows, WorkGroupRows, LocalRows, Sequential, Term, Reshape, LetArray, Map, no_type}
+use Rattle.lift_ir.specs.Terms.{Over, Term, Reshape, LetArray, Map, no_type}
 use Rattle.lift_ir.specs.Types.{Ty, measured}
 use Rattle.printed_form.specs.Counts.{no_variables}
 use Rattle.printed_form.specs.Marks.{Marks}
@@ -219,38 +221,26 @@ module _ {A : Type 0} (num : A → ℕ) (l : Launch) (item : ℕ) where
   no_groups : (t : Term A) → Stands true t → group_turns num (ids_of l item) t ≡ 0
   no_groups (Reshape y t) h = no_groups t h.1
   no_groups (LetArray v b) h = no_groups b h.1
-  no_groups (Map WorkGroup n loads xs b) h = absurd h
-  no_groups (Map WorkGroupRows n loads xs b) h = absurd h
-  no_groups (Map Global n loads xs b) h = refl
-  no_groups (Map Local n loads xs b) h = refl
-  no_groups (Map GlobalRows n loads xs b) h = refl
-  no_groups (Map LocalRows n loads xs b) h = refl
-  no_groups (Map Sequential n loads xs b) h = refl
+  no_groups (Map (Over level.Groups _) n loads xs b) h = absurd h
   no_groups _ h = refl
 
   no_groups_over : (t : Term A) → StandsOverLaunch t → group_turns num (ids_of l item) t ≡ 0
   no_groups_over (Reshape y t) h = no_groups_over t h.1
   no_groups_over (LetArray v b) h = no_groups_over b h.1
-  no_groups_over (Map WorkGroup n loads xs b) h = absurd h
-  no_groups_over (Map WorkGroupRows n loads xs b) h = absurd h
-  no_groups_over (Map Global n loads xs b) h = refl
-  no_groups_over (Map Local n loads xs b) h = refl
-  no_groups_over (Map GlobalRows n loads xs b) h = refl
-  no_groups_over (Map LocalRows n loads xs b) h = refl
-  no_groups_over (Map Sequential n loads xs b) h = refl
+  no_groups_over (Map (Over level.Groups _) n loads xs b) h = absurd h
   no_groups_over _ h = refl
 
 -- which phases a turn has
 pub in_one_row : {A : Type 0} (t : Term A) → StandsOverGroups t → turn_phases t ≡ phase_count t
 in_one_row (Reshape y t) h = in_one_row t h.1
 in_one_row (LetArray v b) h = in_one_row b h.1
-in_one_row (Map WorkGroup n loads xs b) h = refl
+in_one_row (Map (Over level.Groups X) n loads xs b) h = refl
 in_one_row _ h = absurd h
 
 pub in_rows : {A : Type 0} (t : Term A) → StandsOverGrid t → turn_phases t ≡ grid_phase_count t
 in_rows (Reshape y t) h = in_rows t h.1
 in_rows (LetArray v b) h = in_rows b h.1
-in_rows (Map WorkGroupRows n loads xs b) h = refl
+in_rows (Map (Over level.Groups Y) n loads xs b) h = refl
 in_rows _ h = absurd h
 
 same_barriers : (n : ℕ) (f g : ℕ → Fencing) → ((q : ℕ) → q < n → f q ≡ g q) → barriers_to f n ≡ barriers_to g n

@@ -9,9 +9,9 @@ use Rattle.kernel_tree.specs.Launch.{Launch, ids_of}
 use Rattle.barrier_placement.specs.Fencing.{Fencing, Open, Fenced, stands}
 use Rattle.barrier_placement.specs.Separates.{bit}
 use Rattle.printed_form.specs.Form.{IsTurn}
-use Rattle.printed_form.specs.MapForms.{MapForm, Looped, Guarded, Alone, form_over_groups, TurnCode}
+use Rattle.printed_form.specs.MapForms.{MapForm, Looped, Guarded, Alone, form_over_groups, TurnCode, AreTurnsFrom, statement_of}
 use Rattle.group_phases.specs.Epochs.{IsPast}
-use Rattle.group_phases.specs.Strides.{AreTurnsFrom, MakesTurnsBy, statement_of}
+use Rattle.group_phases.specs.Strides.{MakesTurnsBy}
 use Rattle.kernel_traffic.specs.Traffic.{turns_below, once}
 use Rattle.kernel_traffic.specs.Laws.{TurnsGoOneByOne}
 use Rattle.term_traffic.specs.Regions.{Region}

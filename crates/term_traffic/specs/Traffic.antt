@@ -2,34 +2,31 @@
 -- it takes of the term's maps and folds, and how often each group is released.
 use Rattle.std.specs.Int.{div_ceil}
 use Rattle.std.specs.Prelude.{ℕ, zero, suc, ◌+◌, ◌-◌, ◌*◌, true, false, [], ◌∷◌, if◌then◌else◌}
-use Rattle.kernel_tree.specs.Formula.{Ids}
+use Rattle.lift_tree.specs.declared.term.Level.TheVariants.{Launch, Groups, Items}
+use Rattle.lift_tree.specs.declared.term.Dimension.TheVariants.{X, Y}
+use Rattle.kernel_tree.specs.Formula.{Ids, along}
 use Rattle.barrier_placement.specs.Fencing.{Fencing, stands}
 use Rattle.barrier_placement.specs.Separates.{bit}
 use Rattle.lift_ir.specs.Owner.{is_in_rows}
 use Rattle.lift_ir.specs.Types.{Ty, Scalar, PairOf, ArrayOf}
-use Rattle.lift_ir.specs.Terms.{LoadSet, Skip, Take, TakeFour, Each, Kind, Global, WorkGroup, Local, GlobalRows, WorkGroupRows, LocalRows, Sequential, Term, Both, Project, Reshape, LetArray, LetElement, Map, Fold, Store, Copy, push}
+use Rattle.lift_ir.specs.Terms.{LoadSet, Skip, Take, TakeFour, Each, Kind, Over, Sequential, Term, Both, Project, Reshape, LetArray, LetElement, Map, Fold, Store, Copy, push}
+use Rattle.printed_form.specs.Form.{dimension_of}
 use Rattle.group_form.specs.GridTheorem.{grid_phase_count}
 use Rattle.group_form.specs.Uses.{phase_count}
 use Rattle.term_traffic.specs.Regions.{Region, NoMemory, InGlobal, InLocal, InPrivate, Regions, region_in, all_in, regions_of, regions_left}
 
 -- the first index that an item with these ids takes of a map of a kind
 abbrev pub first_turn : Ids → Kind → ℕ
-first_turn ids Global = ids.x.global_id
-first_turn ids WorkGroup = ids.x.group_id
-first_turn ids Local = ids.x.local_id
-first_turn ids GlobalRows = ids.y.global_id
-first_turn ids WorkGroupRows = ids.y.group_id
-first_turn ids LocalRows = ids.y.local_id
+first_turn ids (Over Launch d) = (along ids (dimension_of d)).global_id
+first_turn ids (Over Groups d) = (along ids (dimension_of d)).group_id
+first_turn ids (Over Items d) = (along ids (dimension_of d)).local_id
 first_turn ids Sequential = 0
 
 -- and how far it is from one to the next
 abbrev pub turn_stride : Ids → Kind → ℕ
-turn_stride ids Global = ids.x.global_size
-turn_stride ids WorkGroup = ids.x.group_count
-turn_stride ids Local = ids.x.local_size
-turn_stride ids GlobalRows = ids.y.global_size
-turn_stride ids WorkGroupRows = ids.y.group_count
-turn_stride ids LocalRows = ids.y.local_size
+turn_stride ids (Over Launch d) = (along ids (dimension_of d)).global_size
+turn_stride ids (Over Groups d) = (along ids (dimension_of d)).group_count
+turn_stride ids (Over Items d) = (along ids (dimension_of d)).local_size
 turn_stride ids Sequential = 1
 
 -- how many turns it takes of a map of a kind over n
@@ -130,27 +127,16 @@ barriers_to fence (suc n) = barriers_to fence n + bit (stands (fence n))
 -- how many turns an item takes of the map over the groups of a row
 abbrev pub row_turns : {A : Type 0} → (A → ℕ) → Ids → Term A → ℕ
 row_turns num ids (Reshape y t) = row_turns num ids t
-row_turns num ids (Map WorkGroup n loads xs b) = turns_of ids WorkGroup (num n)
-row_turns num ids (Map Global n loads xs b) = 0
-row_turns num ids (Map Local n loads xs b) = 0
-row_turns num ids (Map GlobalRows n loads xs b) = 0
-row_turns num ids (Map WorkGroupRows n loads xs b) = 0
-row_turns num ids (Map LocalRows n loads xs b) = 0
-row_turns num ids (Map Sequential n loads xs b) = 0
+row_turns num ids (Map (Over Groups X) n loads xs b) = turns_of ids (Over Groups X) (num n)
 row_turns num ids _ = 0
 
 -- and of the maps over work-groups in all: over rows of groups, in each row those along it
 abbrev pub group_turns : {A : Type 0} → (A → ℕ) → Ids → Term A → ℕ
 group_turns num ids (Reshape y t) = group_turns num ids t
 group_turns num ids (LetArray v b) = group_turns num ids b
-group_turns num ids (Map WorkGroup n loads xs b) = turns_of ids WorkGroup (num n)
-group_turns num ids (Map WorkGroupRows n loads xs b) =
-    turns_of ids WorkGroupRows (num n) * row_turns num ids b
-group_turns num ids (Map Global n loads xs b) = 0
-group_turns num ids (Map Local n loads xs b) = 0
-group_turns num ids (Map GlobalRows n loads xs b) = 0
-group_turns num ids (Map LocalRows n loads xs b) = 0
-group_turns num ids (Map Sequential n loads xs b) = 0
+group_turns num ids (Map (Over Groups X) n loads xs b) = turns_of ids (Over Groups X) (num n)
+group_turns num ids (Map (Over Groups Y) n loads xs b) =
+    turns_of ids (Over Groups Y) (num n) * row_turns num ids b
 group_turns num ids _ = 0
 
 -- how many phases each of these turns has

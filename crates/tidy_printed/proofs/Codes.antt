@@ -6,17 +6,16 @@ use Rattle.size_arith.specs.declared.names.Name.{Name}
 use Rattle.kernel_tree.specs.Formula.{Formula, Lanes}
 use Rattle.kernel_tree.specs.Code.{Start, Stride, Code, End}
 use Rattle.lift_ir.specs.Types.{Ty, Scalar, PairOf, ArrayOf}
-use Rattle.lift_ir.specs.Terms.{LoadSet, Skip, Take, TakeFour, Each, Kind, Term, Apply, ApplyNumber, ApplyLanes, DivideLanes, Select, Both, Project, LetElement, push}
+use Rattle.lift_ir.specs.Terms.{LoadSet, Skip, Take, TakeFour, Each, Term, Apply, ApplyNumber, ApplyLanes, DivideLanes, Select, Both, Project, LetElement, push}
 use Rattle.printed_form.specs.Counts.{Count, more, held_count, let_variables, load_count}
 use Rattle.printed_form.specs.Expressions.{Expr}
 use Rattle.printed_form.specs.MapForms.{MapForm, Looped, Guarded, Alone}
 use Rattle.printed_form.specs.Views.{Sign, Blank, Held, HeldFour, Read, View, held_sign, held_view, loaded_view, view_at}
 use Rattle.printed_form.specs.Printer.{or_number, or_lanes, sign_exprs, print_assigned, print_reassigned, print_element, print_store, print_store_four, print_load, print_load_four, print_stored, print_loaded, print_fold_turn}
-use Rattle.group_form.specs.GridPrinter.{print_turns_from}
-use Rattle.group_form.specs.Printer.{print_turns}
+use Rattle.group_form.specs.Printer.{start_formula, turn_from, print_turns_from}
 use Rattle.tidy_printed.specs.Indices.{EachWithin, indices_then}
 use Rattle.tidy_printed.specs.Limits.{IndexNodes, at_one_node, after_loads, index_limit, load_limits, store_limits, bound_limit}
-use Rattle.tidy_printed.proofs.Formulas.{Spelled, Index}
+use Rattle.tidy_printed.proofs.Formulas.{Spelled, Index, index_loop}
 use Rattle.tidy_printed.proofs.Views.{NamesIndex, IsIndexed, part_indexed, turned_indexed, loaded_indexed}
 
 module _ (names : List Name) where
@@ -127,10 +126,11 @@ module _ (names : List Name) where
   turns_fine Guarded s c m bound is turn rest inside limits fs r f = (is, r End (indices_then rest fs) f)
   turns_fine Alone s c m bound is turn rest inside limits fs r f = r rest fs f
 
-  pub kind_turns_fine : (form : MapForm) (kind : Kind) (m : ℕ) (bound : Formula) → Spelled names m bound → PrintsTurns form m (print_turns form kind bound)
-  kind_turns_fine Looped kind m bound is turn rest inside limits fs r f = (is, r End (indices_then rest fs) f)
-  kind_turns_fine Guarded kind m bound is turn rest inside limits fs r f = (is, r End (indices_then rest fs) f)
-  kind_turns_fine Alone kind m bound is turn rest inside limits fs r f = r rest fs f
+  -- what stands for a turn of a map, whose id is an index
+  pub turn_is_index : (form : MapForm) (s : Start) (d : ℕ) → Index names 1 (start_formula s) → Index names 1 (turn_from form s d)
+  turn_is_index Looped s d id = index_loop names d
+  turn_is_index Guarded s d id = id
+  turn_is_index Alone s d id = id
 
   -- a map in a form, whose body's code fits wherever it stands
   pub map_fine : (form : MapForm) (turn : Formula) (print : (Code → Code) → Code → Code) (m : ℕ) (n : Count) (ls : LoadSet) (counts : ℕ → IndexNodes) (env : ℕ → View) (from to : IndexNodes) (x w : View) (inside : (ℕ → IndexNodes) → IndexNodes → List ℕ) (body : (ℕ → View) → View → Code → Code) (rest : Code) (limits : List ℕ) (fs : List Formula)

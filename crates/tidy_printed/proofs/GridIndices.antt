@@ -2,32 +2,33 @@
 -- work-groups in two dimensions.
 use Rattle.std.proofs.Common.{ℕ, ◌+◌, Bool, true, false, List, [], refl}
 use Rattle.size_arith.specs.declared.names.Name.{Name}
+use Rattle.lift_tree.specs.declared.term.Level.TheVariants.{Groups, Items}
+use Rattle.lift_tree.specs.declared.term.Dimension.TheVariants as dimension
 use Rattle.kernel_tree.specs.declared.tree.Dimension.TheVariants.{X, Y}
 use Rattle.kernel_tree.specs.Formula.{Formula, Number}
 use Rattle.kernel_tree.specs.Code.{Local as LocalArray, FromGroupId, FromLocalId, ByGroupCount, ByLocalSize, Start, Stride, Statement, Loads, Stores, LoadsFour, StoresFour, Code, End, Performs, Loops, Guards}
 use Rattle.barrier_placement.specs.Fencing.{Fencing}
 use Rattle.lift_ir.specs.Types.{Shape}
-use Rattle.lift_ir.specs.Terms.{WorkGroup, Local, WorkGroupRows, LocalRows, LocalMemory, Term, Bound, Source, Both, Project, Reshape, LetArray, Map, Copy, push}
+use Rattle.lift_ir.specs.Terms.{Over, LocalMemory, Term, Bound, Source, Both, Project, Reshape, LetArray, Map, Copy, push}
 use Rattle.index_expr.specs.Expression.{Expression, Literal, short_nodes}
 use Rattle.printed_form.specs.Arguments.{argument_view, local_arrays}
 use Rattle.printed_form.specs.Counts.{Count, more, no_variables, load_count, variable_count, private_count, local_count}
-use Rattle.printed_form.specs.MapForms.{MapForm, Looped, Guarded, Alone, form_over_groups}
+use Rattle.printed_form.specs.MapForms.{form_over_groups, statement_of}
 use Rattle.printed_form.specs.Views.{View, loaded_view, view_at, rewritten_view, laid_view}
 use Rattle.printed_form.specs.Printer.{print_loaded, print_written}
 use Rattle.printed_form.proofs.Arguments.{IsArgument}
 use Rattle.group_phases.specs.Epochs.{fenced}
-use Rattle.group_phases.specs.Strides.{statement_of}
 use Rattle.group_form.specs.Form.{Used, used_after}
 use Rattle.group_form.specs.Forms.{IsOfInputs}
-use Rattle.group_form.specs.GridPrinter.{start_formula, turn_from, print_turns_from, print_along_row, print_local_nest, print_grid_argument, print_grid_written, print_along_groups, print_grid}
+use Rattle.group_form.specs.GridPrinter.{print_along_row, print_local_nest, print_grid_argument, print_grid_written, print_along_groups, print_grid}
 use Rattle.group_form.specs.GridTerms.{GridForms, StandsAlongRow, StandsInGrid, StandsAlongGroups, StandsOverGrid}
-use Rattle.group_form.specs.Printer.{depth_in}
+use Rattle.group_form.specs.Printer.{depth_in, turn_from, print_turns_from}
 use Rattle.group_form.specs.Uses.{phases_in}
 use Rattle.tidy_printed.specs.Indices.{EachWithin, index_then, indices_then}
 use Rattle.tidy_printed.specs.Limits.{IndexNodes, at_one_node, after_loads, load_limits, bound_limit, array_nodes, written_through, argument_nodes, element_nodes, argument_limits, written_limits}
-use Rattle.tidy_printed.proofs.Formulas.{Spelled, Index, spelled_number, index_loop, index_group, index_local}
+use Rattle.tidy_printed.proofs.Formulas.{Spelled, spelled_number, index_group, index_local}
 use Rattle.tidy_printed.proofs.Views.{IsIndexed, written_indexed, placed_indexed}
-use Rattle.tidy_printed.proofs.Codes.{Fits, AreIndexed, pushed, turns_fine, map_fine}
+use Rattle.tidy_printed.proofs.Codes.{Fits, AreIndexed, pushed, turn_is_index, turns_fine, map_fine}
 use Rattle.tidy_printed.proofs.Arguments.{argument_indexed}
 use Rattle.tidy_printed.proofs.TermIndices as terms
 use Rattle.tidy_printed.proofs.GroupIndices as groups
@@ -92,25 +93,19 @@ module _ (names : List Name) {A : Type 0} (spell : A → Expression) (text : A �
   viewed_indexed : (counts : ℕ → IndexNodes) (env : ℕ → View) (a : ℕ) (t : Term A) → IsArgument local_arrays t → Views counts env → IsIndexed names (counted counts t) (viewed env a t)
   viewed_indexed counts env a t is all = argument_indexed names local_arrays spell text lengths forms src ins inputs counts env a t is all
 
-  -- what stands for a turn of a map, whose id is an index
-  turn_is_index : (form : MapForm) (s : Start) (d : ℕ) → Index names 1 (start_formula s) → Index names 1 (turn_from form s d)
-  turn_is_index Looped s d id = index_loop names d
-  turn_is_index Guarded s d id = id
-  turn_is_index Alone s d id = id
-
   along_row_fine : (d : ℕ) (counts : ℕ → IndexNodes) (env : ℕ → View) (k a : ℕ) (n : Count) (t : Term A) (to : IndexNodes) (w : View) (rest : Code) (limits : List ℕ) (fs : List Formula) → StandsAlongRow t → Views counts env → IsIndexed names to w → Right limits rest fs → Right (written counts t to limits) (print_along_row text forms ins fence d env k a n t w rest) fs
   along_row_fine d counts env k a n (Reshape y x) to w rest limits fs stands all goes f =
       along_row_fine d counts env k a n x (written_through spell y to) (rewritten_view text y w) rest limits fs stands.1 all (written_indexed names spell text lengths y to w goes) f
-  along_row_fine d counts env k a n (Map Local m ls x b) to w rest limits fs stands all goes f =
+  along_row_fine d counts env k a n (Map (Over Items dimension.X) m ls x b) to w rest limits fs stands all goes f =
       let form = forms.columns.local m in
       let privates = a + private_count x in
       let variables = more (more n (variable_count x)) (load_count ls) in
       let at = element_nodes spell forms src counts x in
       let inside = bound_limit form (short_nodes (spell m)) (load_limits ls at (written (push (after_loads ls at) counts) b (at_one_node to) limits)) in
-      nothing_printed counts x inside (indices_then (print_along_row text forms ins fence d env k a n (Map Local m ls x b) w rest) fs) stands.0
+      nothing_printed counts x inside (indices_then (print_along_row text forms ins fence d env k a n (Map (Over Items dimension.X) m ls x b) w rest) fs) stands.0
       (map_fine names form (turn_from form (FromLocalId X) d) (print_turns_from form (FromLocalId X) (ByLocalSize X) (text m)) (short_nodes (spell m)) (more n (variable_count x)) ls counts env (counted counts x) to (viewed env k x) w
       (λ counts to. written counts b to limits) (λ env w last. print_written text ins (depth_in form d) env privates variables b w last) rest limits fs
-      (turn_is_index form (FromLocalId X) d (index_local names X)) (turns_fine names form (FromLocalId X) (ByLocalSize X) (short_nodes (spell m)) (text m) (lengths m))
+      (turn_is_index names form (FromLocalId X) d (index_local names X)) (turns_fine names form (FromLocalId X) (ByLocalSize X) (short_nodes (spell m)) (text m) (lengths m))
       (λ counts env to w last gs all goes f. terms.written_fine names spell text lengths forms src ins inputs (depth_in form d) counts env privates variables b to w last limits gs stands.1 all goes f)
       all (viewed_indexed counts env k x (input_argument x stands.0) all) goes f)
   along_row_fine d counts env k a n _ to w rest limits fs stands all goes f = absurd stands
@@ -140,7 +135,7 @@ module _ (names : List Name) {A : Type 0} (spell : A → Expression) (text : A �
         let within = push (counted counts v) counts in
         argument_fine d counts env u v (print_grid_written text forms ins fence d inner (used_after u v) b w rest) (written within b to limits) fs stands.0 all
         (written_fine d within inner (used_after u v) b to w rest limits fs stands.1 (pushed names counts env (counted counts v) (viewed env u.locals v) (viewed_indexed counts env u.locals v (grid_argument v stands.0) all) all) goes f)
-    written_fine d counts env u (Map LocalRows m ls x b) to w rest limits fs stands all goes f =
+    written_fine d counts env u (Map (Over Items dimension.Y) m ls x b) to w rest limits fs stands all goes f =
         let form = forms.rows.local m in
         let after = used_after u x in
         let variables = more after.variables (load_count ls) in
@@ -152,7 +147,7 @@ module _ (names : List Name) {A : Type 0} (spell : A → Expression) (text : A �
         (groups.fence_fine names spell text lengths forms src ins inputs fence place nest inside fs
         (map_fine names form (turn_from form (FromLocalId Y) d) (print_turns_from form (FromLocalId Y) (ByLocalSize Y) (text m)) (short_nodes (spell m)) after.variables ls counts env (counted counts x) to (viewed env u.locals x) w
         (λ counts to. written counts b to limits) (λ env w last. print_along_row text forms ins fence (depth_in form d) env after.locals after.privates variables b w last) rest limits fs
-        (turn_is_index form (FromLocalId Y) d (index_local names Y)) (turns_fine names form (FromLocalId Y) (ByLocalSize Y) (short_nodes (spell m)) (text m) (lengths m))
+        (turn_is_index names form (FromLocalId Y) d (index_local names Y)) (turns_fine names form (FromLocalId Y) (ByLocalSize Y) (short_nodes (spell m)) (text m) (lengths m))
         (λ counts env to w last gs all goes f. along_row_fine (depth_in form d) counts env after.locals after.privates variables b to w last limits gs stands.1 all goes f)
         all (viewed_indexed counts env u.locals x (grid_argument x stands.0) all) goes f))
     written_fine d counts env u _ to w rest limits fs stands all goes f = absurd stands
@@ -165,7 +160,7 @@ module _ (names : List Name) {A : Type 0} (spell : A → Expression) (text : A �
   along_groups_fine : (d : ℕ) (counts : ℕ → IndexNodes) (env : ℕ → View) (n : Count) (t : Term A) (to : IndexNodes) (w : View) (fs : List Formula) → StandsAlongGroups t → Views counts env → IsIndexed names to w → EachWithin (Spelled names) [] fs → Right (written counts t to []) (print_along_groups text forms ins fence d env n t w) fs
   along_groups_fine d counts env n (Reshape y t) to w fs stands all goes f =
       along_groups_fine d counts env n t (written_through spell y to) (rewritten_view text y w) fs stands.1 all (written_indexed names spell text lengths y to w goes) f
-  along_groups_fine d counts env n (Map WorkGroup m ls xs b) to w fs stands all goes f =
+  along_groups_fine d counts env n (Map (Over Groups dimension.X) m ls xs b) to w fs stands all goes f =
       let once = forms.columns.once m in
       let form = form_over_groups once in
       let turn = turn_from form (FromGroupId X) d in
@@ -180,7 +175,7 @@ module _ (names : List Name) {A : Type 0} (spell : A → Expression) (text : A �
       (statement_fine once (FromGroupId X) (ByGroupCount X) (text m) body limits fs
       (map_fine names form turn (print_turns_from form (FromGroupId X) (ByGroupCount X) (text m)) (short_nodes (spell m)) n ls counts env (counted counts xs) to (input_view names spell text lengths forms src ins inputs fence env xs) w
       (λ counts to. written counts b to []) code End [] fs
-      (turn_is_index form (FromGroupId X) d (index_group names X)) (turns_fine names form (FromGroupId X) (ByGroupCount X) (short_nodes (spell m)) (text m) (lengths m))
+      (turn_is_index names form (FromGroupId X) d (index_group names X)) (turns_fine names form (FromGroupId X) (ByGroupCount X) (short_nodes (spell m)) (text m) (lengths m))
       (λ counts env to w last gs all goes f. written_fine (depth_in form d) counts env u b to w (fenced closing last) [] gs stands.1 all goes (groups.fence_fine names spell text lengths forms src ins inputs fence closing last [] gs f))
       all (groups.input_indexed names spell text lengths forms src ins inputs fence counts env xs stands.0 all) goes f))
   along_groups_fine d counts env n _ to w fs stands all goes f = absurd stands
@@ -192,7 +187,7 @@ module _ (names : List Name) {A : Type 0} (spell : A → Expression) (text : A �
       let seen = input_view names spell text lengths forms src ins inputs fence env v in
       nothing_printed counts v (written within b to []) (indices_then (print_grid text forms ins fence (push seen env) b w) []) stands.0
       (grid_fine within (push seen env) b to w stands.1 (pushed names counts env (counted counts v) seen (groups.input_indexed names spell text lengths forms src ins inputs fence counts env v stands.0 all) all) goes)
-  grid_fine counts env (Map WorkGroupRows m ls xs b) to w stands all goes =
+  grid_fine counts env (Map (Over Groups dimension.Y) m ls xs b) to w stands all goes =
       let once = forms.rows.once m in
       let form = form_over_groups once in
       let turn = turn_from form (FromGroupId Y) 0 in
@@ -206,7 +201,7 @@ module _ (names : List Name) {A : Type 0} (spell : A → Expression) (text : A �
       (statement_fine once (FromGroupId Y) (ByGroupCount Y) (text m) body limits []
       (map_fine names form turn (print_turns_from form (FromGroupId Y) (ByGroupCount Y) (text m)) (short_nodes (spell m)) no_variables ls counts env (counted counts xs) to seen w
       (λ counts to. written counts b to []) code End [] []
-      (turn_is_index form (FromGroupId Y) 0 (index_group names Y)) (turns_fine names form (FromGroupId Y) (ByGroupCount Y) (short_nodes (spell m)) (text m) (lengths m))
+      (turn_is_index names form (FromGroupId Y) 0 (index_group names Y)) (turns_fine names form (FromGroupId Y) (ByGroupCount Y) (short_nodes (spell m)) (text m) (lengths m))
       (λ counts env to w last gs all goes f. along_groups_fine (depth_in form 0) counts env (load_count ls) b to w gs stands.1 all goes (none_behind (Spelled names) last gs f))
       all (groups.input_indexed names spell text lengths forms src ins inputs fence counts env xs stands.0 all) goes tt))
   grid_fine counts env _ to w stands all goes = absurd stands

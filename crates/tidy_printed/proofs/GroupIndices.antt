@@ -1,16 +1,18 @@
 -- The indices of loads and stores, and the bounds of loops, in the code of a map over work-groups.
 use Rattle.std.proofs.Common.{ℕ, ◌+◌, Bool, true, false, List, []}
 use Rattle.size_arith.specs.declared.names.Name.{Name}
+use Rattle.lift_tree.specs.declared.term.Level.TheVariants.{Groups, Items}
+use Rattle.lift_tree.specs.declared.term.Dimension.TheVariants as dimension
 use Rattle.kernel_tree.specs.declared.tree.Dimension.TheVariants.{X}
 use Rattle.kernel_tree.specs.Formula.{Formula, Number}
-use Rattle.kernel_tree.specs.Code.{Local as LocalArray, Code, End}
+use Rattle.kernel_tree.specs.Code.{Local as LocalArray, FromGroupId, FromLocalId, ByGroupCount, ByLocalSize, Code, End}
 use Rattle.barrier_placement.specs.Fencing.{Fencing, Open, Fenced}
 use Rattle.lift_ir.specs.Types.{Shape}
-use Rattle.lift_ir.specs.Terms.{Kind, WorkGroup, Local, LocalMemory, Term, Bound, Source, Both, Project, Reshape, LetArray, Map, Copy, push}
+use Rattle.lift_ir.specs.Terms.{Over, LocalMemory, Term, Bound, Source, Both, Project, Reshape, LetArray, Map, Copy, push}
 use Rattle.index_expr.specs.Expression.{Expression, Literal, short_nodes}
 use Rattle.printed_form.specs.Arguments.{argument_view, private_arrays, local_arrays}
 use Rattle.printed_form.specs.Counts.{more, no_variables, load_count, local_count}
-use Rattle.printed_form.specs.MapForms.{MapForm, Looped, Guarded, Alone, form_over_groups, statement_over_groups}
+use Rattle.printed_form.specs.MapForms.{form_over_groups, statement_over_groups}
 use Rattle.printed_form.specs.Views.{View, loaded_view, view_at, rewritten_view, laid_view}
 use Rattle.printed_form.specs.Printer.{print_loaded, print_written}
 use Rattle.printed_form.proofs.Arguments.{stands_argument}
@@ -19,13 +21,13 @@ use Rattle.group_form.specs.Form.{Used, used_after}
 use Rattle.group_form.specs.Forms.{IsOfInputs, StandsInGroup, StandsOverGroups}
 use Rattle.group_form.specs.GridTerms.{GridForms}
 use Rattle.group_form.specs.Uses.{phases_in}
-use Rattle.group_form.specs.Printer.{id_of, turn_formula, depth_in, print_turns, print_local_map, print_group_argument, print_group_written, print_groups}
+use Rattle.group_form.specs.Printer.{turn_formula, depth_in, print_turns, print_local_map, print_group_argument, print_group_written, print_groups}
 use Rattle.group_form.proofs.Arguments.{group_argument, inputs_stand}
 use Rattle.tidy_printed.specs.Indices.{EachWithin, indices_then}
 use Rattle.tidy_printed.specs.Limits.{IndexNodes, at_one_node, after_loads, load_limits, bound_limit, array_nodes, written_through, argument_nodes, element_nodes, argument_limits, written_limits}
-use Rattle.tidy_printed.proofs.Formulas.{Spelled, Index, spelled_number, index_loop, index_group, index_local}
+use Rattle.tidy_printed.proofs.Formulas.{Spelled, spelled_number, index_group, index_local}
 use Rattle.tidy_printed.proofs.Views.{IsIndexed, written_indexed, placed_indexed}
-use Rattle.tidy_printed.proofs.Codes.{Fits, AreIndexed, pushed, kind_turns_fine, map_fine}
+use Rattle.tidy_printed.proofs.Codes.{Fits, AreIndexed, pushed, turn_is_index, turns_fine, map_fine}
 use Rattle.tidy_printed.proofs.Arguments.{argument_indexed}
 use Rattle.tidy_printed.proofs.TermIndices as terms
 
@@ -55,12 +57,6 @@ module _ (names : List Name) {A : Type 0} (spell : A → Expression) (text : A �
   fence_fine Open rest limits fs f = f
   fence_fine (Fenced a b) rest limits fs f = f
 
-  -- what stands for a turn of a map, whose id is an index
-  turn_is_index : (form : MapForm) (kind : Kind) (d : ℕ) → Index names 1 (id_of kind) → Index names 1 (turn_formula form kind d)
-  turn_is_index Looped kind d id = index_loop names d
-  turn_is_index Guarded kind d id = id
-  turn_is_index Alone kind d id = id
-
   mutual
     argument_fine : (d : ℕ) (counts : ℕ → IndexNodes) (env : ℕ → View) (u : Used) (t : Term A) (rest : Code) (limits : List ℕ) (fs : List Formula) → StandsInGroup false t → Views counts env → Right limits rest fs → Right (argued counts t limits) (print_group_argument text forms.columns ins fence d env u t rest) fs
     argument_fine d counts env u (Bound v) rest limits fs stands all f = f
@@ -86,7 +82,7 @@ module _ (names : List Name) {A : Type 0} (spell : A → Expression) (text : A �
         let within = push (counted counts v) counts in
         argument_fine d counts env u v (print_group_written text forms.columns ins fence d inner (used_after u v) b w rest) (written within b to limits) fs stands.0 all
         (written_fine d within inner (used_after u v) b to w rest limits fs stands.1 (pushed names counts env (counted counts v) (viewed env u.locals v) (viewed_indexed counts env u.locals v stands.0 all) all) goes f)
-    written_fine d counts env u (Map Local m ls x b) to w rest limits fs stands all goes f =
+    written_fine d counts env u (Map (Over Items dimension.X) m ls x b) to w rest limits fs stands all goes f =
         let form = forms.columns.local m in
         let after = used_after u x in
         let variables = more after.variables (load_count ls) in
@@ -96,15 +92,15 @@ module _ (names : List Name) {A : Type 0} (spell : A → Expression) (text : A �
         let inside = bound_limit form (short_nodes (spell m)) (load_limits ls at (written (push (after_loads ls at) counts) b (at_one_node to) limits)) in
         argument_fine d counts env u x (fenced place map) inside fs stands.0 all
         (fence_fine place map inside fs
-        (map_fine names form (turn_formula form Local d) (print_turns form Local (text m)) (short_nodes (spell m)) after.variables ls counts env (counted counts x) to (viewed env u.locals x) w
+        (map_fine names form (turn_formula form (Over Items dimension.X) d) (print_turns form (Over Items dimension.X) (text m)) (short_nodes (spell m)) after.variables ls counts env (counted counts x) to (viewed env u.locals x) w
         (λ counts to. written counts b to limits) (λ env w last. print_written text ins (depth_in form d) env after.privates variables b w last) rest limits fs
-        (turn_is_index form Local d (index_local names X)) (kind_turns_fine names form Local (short_nodes (spell m)) (text m) (lengths m))
+        (turn_is_index names form (FromLocalId X) d (index_local names X)) (turns_fine names form (FromLocalId X) (ByLocalSize X) (short_nodes (spell m)) (text m) (lengths m))
         (λ counts env to w last gs all goes f. terms.written_fine names spell text lengths forms src ins inputs (depth_in form d) counts env after.privates variables b to w last limits gs stands.1 all goes f)
         all (viewed_indexed counts env u.locals x stands.0 all) goes f))
     written_fine d counts env u _ to w rest limits fs stands all goes f = absurd stands
 
   -- ---- the map over work-groups
-  statement_fine : (once : Bool) (bound : Formula) (turn : Code → Code) (limits : List ℕ) → Right limits (print_turns (form_over_groups once) WorkGroup bound turn End) [] → Right limits (statement_over_groups once bound (turn End)) []
+  statement_fine : (once : Bool) (bound : Formula) (turn : Code → Code) (limits : List ℕ) → Right limits (print_turns (form_over_groups once) (Over Groups dimension.X) bound turn End) [] → Right limits (statement_over_groups dimension.X once bound (turn End)) []
   statement_fine false bound turn limits f = f
   statement_fine true bound turn limits f = f
 
@@ -133,9 +129,9 @@ module _ (names : List Name) {A : Type 0} (spell : A → Expression) (text : A �
       let inner = push (input_view env v) env in
       nothing_printed counts v (written within b to []) (indices_then (print_groups text forms.columns ins fence inner b w) []) stands.0
       (groups_fine within inner b to w stands.1 (pushed names counts env (counted counts v) (input_view env v) (input_indexed counts env v stands.0 all) all) goes)
-  groups_fine counts env (Map WorkGroup m ls xs b) to w stands all goes =
+  groups_fine counts env (Map (Over Groups dimension.X) m ls xs b) to w stands all goes =
       let form = form_over_groups (forms.columns.once m) in
-      let turn = turn_formula form WorkGroup 0 in
+      let turn = turn_formula form (Over Groups dimension.X) 0 in
       let element = view_at turn (input_view env xs) in
       let u : Used = record { locals = 0; privates = 0; variables = load_count ls; phases = 0 } in
       let closing = fence (phases_in b) in
@@ -143,11 +139,11 @@ module _ (names : List Name) {A : Type 0} (spell : A → Expression) (text : A �
       let body : Code → Code = λ last. print_loaded ls element no_variables (code (push (loaded_view ls element no_variables) env) (view_at turn w) last) in
       let at = element_nodes spell forms src counts xs in
       let limits = bound_limit form (short_nodes (spell m)) (load_limits ls at (written (push (after_loads ls at) counts) b (at_one_node to) [])) in
-      nothing_printed counts xs limits (indices_then (statement_over_groups (forms.columns.once m) (text m) (body End)) []) stands.0
+      nothing_printed counts xs limits (indices_then (statement_over_groups dimension.X (forms.columns.once m) (text m) (body End)) []) stands.0
       (statement_fine (forms.columns.once m) (text m) body limits
-      (map_fine names form turn (print_turns form WorkGroup (text m)) (short_nodes (spell m)) no_variables ls counts env (counted counts xs) to (input_view env xs) w
+      (map_fine names form turn (print_turns form (Over Groups dimension.X) (text m)) (short_nodes (spell m)) no_variables ls counts env (counted counts xs) to (input_view env xs) w
       (λ counts to. written counts b to []) code End [] []
-      (turn_is_index form WorkGroup 0 (index_group names X)) (kind_turns_fine names form WorkGroup (short_nodes (spell m)) (text m) (lengths m))
+      (turn_is_index names form (FromGroupId X) 0 (index_group names X)) (turns_fine names form (FromGroupId X) (ByGroupCount X) (short_nodes (spell m)) (text m) (lengths m))
       (λ counts env to w last gs all goes f. written_fine (depth_in form 0) counts env u b to w (fenced closing last) [] gs stands.1 all goes (fence_fine closing last [] gs f))
       all (input_indexed counts env xs stands.0 all) goes tt))
   groups_fine counts env _ to w stands all goes = absurd stands

@@ -10,8 +10,7 @@ use Rattle.printed_form.specs.Counts.{Count, more, held_count, let_variables, lo
 use Rattle.printed_form.specs.Marks.{Mark, Nowhere, Register, Lane, Spot, Marks, held_marks, loaded_marks}
 use Rattle.printed_form.specs.Expressions.{Expr, exprs}
 use Rattle.printed_form.specs.Form.{IsTurn, IsSpot, IsFourSpot, IsStored, IsLoaded, IsLoop, IsFoldTurn}
-use Rattle.printed_form.specs.MapForms.{MapForm, Looped, Guarded, Alone, TurnCode, form_over_groups, variables_in}
-use Rattle.group_phases.specs.Strides.{AreTurnsFrom, statement_of}
+use Rattle.printed_form.specs.MapForms.{MapForm, Looped, Guarded, Alone, TurnCode, form_over_groups, variables_in, AreTurnsFrom, statement_of}
 use Rattle.tidy_indices.specs.Around.{Around, InLoop, InIf, StandsIn}
 use Rattle.tidy_indices.specs.Laws.{Change, KeepsValues}
 use Rattle.tidy_kernels.specs.Pass.{tidied_code}

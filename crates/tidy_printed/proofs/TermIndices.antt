@@ -1,11 +1,13 @@
 -- The indices of loads and stores, and the bounds of loops, in the printer's code of a whole term.
 use Rattle.std.proofs.Common.{ℕ, suc, ◌+◌, Bool, true, false, List, [], ◌∷◌, Option}
 use Rattle.size_arith.specs.declared.names.Name.{Name}
+use Rattle.lift_tree.specs.declared.term.Level.TheVariants.{Launch}
+use Rattle.lift_tree.specs.declared.term.Dimension.TheVariants.{X, Y}
 use Rattle.kernel_tree.specs.Formula.{Formula, Number, LoopVariable}
 use Rattle.kernel_tree.specs.Code.{Private, Code, End, Loops}
 use Rattle.lift_ir.specs.Forms.{Stands, StandsAlongRow, StandsOverLaunch}
 use Rattle.lift_ir.specs.Types.{Shape}
-use Rattle.lift_ir.specs.Terms.{LoadSet, Kind, Global, GlobalRows, Sequential, PrivateMemory, Term, Bound, Source, Both, Project, Reshape, LetArray, LetElement, Map, Fold, Store, Copy, push}
+use Rattle.lift_ir.specs.Terms.{LoadSet, Kind, Over, Sequential, PrivateMemory, Term, Bound, Source, Both, Project, Reshape, LetArray, LetElement, Map, Fold, Store, Copy, push}
 use Rattle.index_expr.specs.Expression.{Expression, Literal, short_nodes}
 use Rattle.printed_form.specs.Arguments.{argument_view, private_arrays}
 use Rattle.printed_form.specs.Counts.{Count, more, held_count, let_variables, load_count, variable_count, private_count}
@@ -15,7 +17,7 @@ use Rattle.printed_form.specs.MapForms.{Looped}
 use Rattle.printed_form.specs.Views.{View, held_sign, held_view, loaded_view, view_at, rewritten_view, laid_view}
 use Rattle.printed_form.specs.Printer.{sign_exprs, print_assigned, print_element, print_stored, print_loaded, print_fold_turn, print_argument, print_written}
 use Rattle.printed_form.proofs.Arguments.{stands_argument}
-use Rattle.group_form.specs.GridPrinter.{print_turns_from}
+use Rattle.group_form.specs.Printer.{print_turns_from}
 use Rattle.group_form.specs.GridTerms.{GridForms}
 use Rattle.tidy_printed.specs.Indices.{indices_then}
 use Rattle.tidy_printed.specs.Limits.{IndexNodes, no_index, at_one_node, after_loads, load_limits, store_limits, array_nodes, written_through, argument_nodes, element_nodes, argument_limits, written_limits}
@@ -123,8 +125,8 @@ module _ (names : List Name) {A : Type 0} (spell : A → Expression) (text : A �
   row_fine : (d : ℕ) (counts : ℕ → IndexNodes) (env : ℕ → View) (a : ℕ) (n : Count) (t : Term A) (to : IndexNodes) (w : View) (rest : Code) (limits : List ℕ) (fs : List Formula) → StandsAlongRow t → Views counts env → IsIndexed names to w → Right limits rest fs → Right (written counts t to limits) (print_written text ins d env a n t w rest) fs
   row_fine d counts env a n (Reshape y x) to w rest limits fs stands all goes f =
       row_fine d counts env a n x (written_through spell y to) (rewritten_view text y w) rest limits fs stands.1 all (written_indexed names spell text lengths y to w goes) f
-  row_fine d counts env a n (Map Global m ls x b) to w rest limits fs stands all goes f =
-      loop_fine Global d counts env a n m ls x b to w rest limits fs (λ code inside r. argument_fine d counts env a n x code inside fs stands.0 all r)
+  row_fine d counts env a n (Map (Over Launch X) m ls x b) to w rest limits fs stands all goes f =
+      loop_fine (Over Launch X) d counts env a n m ls x b to w rest limits fs (λ code inside r. argument_fine d counts env a n x code inside fs stands.0 all r)
       (λ counts env a n to w last gs all goes f. written_fine (suc d) counts env a n b to w last limits gs stands.1 all goes f) stands.0 all goes f
   row_fine d counts env a n _ to w rest limits fs stands all goes f = absurd stands
 
@@ -136,8 +138,8 @@ module _ (names : List Name) {A : Type 0} (spell : A → Expression) (text : A �
       let within = push (counted counts v) counts in
       argument_fine d counts env a n v (print_written text ins d inner (a + private_count v) (more n (variable_count v)) b w rest) (written within b to limits) fs stands.0 all
       (launch_fine d within inner (a + private_count v) (more n (variable_count v)) b to w rest limits fs stands.1 (pushed names counts env (counted counts v) (viewed env a v) (viewed_indexed counts env a v stands.0 all) all) goes f)
-  launch_fine d counts env a n (Map Global m ls x b) to w rest limits fs stands all goes f = row_fine d counts env a n (Map Global m ls x b) to w rest limits fs stands all goes f
-  launch_fine d counts env a n (Map GlobalRows m ls x b) to w rest limits fs stands all goes f =
-      loop_fine GlobalRows d counts env a n m ls x b to w rest limits fs (λ code inside r. argument_fine d counts env a n x code inside fs stands.0 all r)
+  launch_fine d counts env a n (Map (Over Launch X) m ls x b) to w rest limits fs stands all goes f = row_fine d counts env a n (Map (Over Launch X) m ls x b) to w rest limits fs stands all goes f
+  launch_fine d counts env a n (Map (Over Launch Y) m ls x b) to w rest limits fs stands all goes f =
+      loop_fine (Over Launch Y) d counts env a n m ls x b to w rest limits fs (λ code inside r. argument_fine d counts env a n x code inside fs stands.0 all r)
       (λ counts env a n to w last gs all goes f. row_fine (suc d) counts env a n b to w last limits gs stands.1 all goes f) stands.0 all goes f
   launch_fine d counts env a n _ to w rest limits fs stands all goes f = absurd stands

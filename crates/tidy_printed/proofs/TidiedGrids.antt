@@ -2,13 +2,15 @@
 use Rattle.std.proofs.Common.{◌≡◌, ℕ, zero, suc, ◌+◌, ◌*◌, ◌/◌, ◌%◌, ◌<◌, Bool, true, List, [], ◌∷◌, Some, ap, ◌∙◌, arith}
 use Rattle.std.proofs.Math.Nat.{mod-lt, div-lt_iff_lt-mul}
 use Rattle.size_arith.specs.declared.poly.Monomial.{Monomial}
+use Rattle.lift_tree.specs.declared.term.Level.TheVariants.{Groups, Items}
+use Rattle.lift_tree.specs.declared.term.Dimension.TheVariants as dimension
 use Rattle.kernel_tree.specs.declared.tree.Dimension.TheVariants.{X, Y}
 use Rattle.kernel_tree.specs.Formula.{Formula, bound_value}
 use Rattle.kernel_tree.specs.Code.{Local as LocalArray, FromGroupId, FromLocalId, ByGroupCount, ByLocalSize, Code, End}
 use Rattle.kernel_tree.specs.Launch.{Launch, item_count, ids_of}
 use Rattle.barrier_placement.specs.Fencing.{Fencing}
 use Rattle.lift_ir.specs.Layouts.{result_position}
-use Rattle.lift_ir.specs.Terms.{LoadSet, WorkGroup, Local, WorkGroupRows, LocalRows, LocalMemory, Term, Bound, Source, Both, Project, Reshape, LetArray, Map, Copy, push}
+use Rattle.lift_ir.specs.Terms.{LoadSet, Over, LocalMemory, Term, Bound, Source, Both, Project, Reshape, LetArray, Map, Copy, push}
 use Rattle.lift_ir.specs.Scalars.{at_index}
 use Rattle.printed_form.specs.Arguments.{local_arrays, marks_in}
 use Rattle.printed_form.specs.Counts.{Count, more, no_variables, load_count, variable_count, private_count, local_count}
@@ -44,7 +46,7 @@ module _ {A : Type 0} (num : A → ℕ) (forms : GridForms A) (l : Launch) (ins 
   along_row : (item : ℕ) → item < item_count l → (around : List Around) (ts : List ℕ) → StandsIn (ids_of l item) around ts → (k a : ℕ) (n : Count) (env : ℕ → Marks) (t : Term A) (w : Marks) (r : ℕ) (code rest : Code)
       → IsAlongRow num forms l ins item k a n env t w ts r code rest → IsAlongRow num forms l ins item k a n env t w ts r (tidied_code tidy around code) (tidied_code tidy around rest)
   along_row item here around ts stands k a n env (Reshape y t) w r code rest h = (h.0, along_row item here around ts stands k a n env t (λ cs p. w cs (result_position num y p)) r code rest h.1)
-  along_row item here around ts stands k a n env (Map Local m loads xs b) w r code rest h =
+  along_row item here around ts stands k a n env (Map (Over Items dimension.X) m loads xs b) w r code rest h =
       map_turns l item ins num tidy keeps here around ts stands (forms.columns.local m) (FromLocalId X) (ByLocalSize X) (num m) env (a + private_count xs) (more n (variable_count xs)) loads (marks_in local_arrays num ins env k xs) w b code rest
       (body_stays l item ins num tidy keeps here b) h
   along_row item here around ts stands k a n env _ w r code rest h = absurd h
@@ -107,7 +109,7 @@ module _ {A : Type 0} (num : A → ℕ) (forms : GridForms A) (l : Launch) (ins 
       grid_written env u (Reshape y t) w code rest h = (h.0, grid_written env u t (λ i cs p. w i cs (result_position num y p)) code rest h.1)
       grid_written env u (LetArray v b) w code rest h =
           (tidied h.0, grid_argument env u v code h.0 h.1, grid_written (λ i. push (marks_of num ins env u.locals v i) (env i)) (used_after u v) b w h.0 rest h.2)
-      grid_written env u (Map LocalRows n loads xs b) w code rest h = (
+      grid_written env u (Map (Over Items dimension.Y) n loads xs b) w code rest h = (
         tidied h.0,
         tidied h.1,
         grid_argument env u xs code h.0 h.2,
@@ -131,7 +133,7 @@ module _ {A : Type 0} (num : A → ℕ) (forms : GridForms A) (l : Launch) (ins 
       → IsAlongGroups num forms l ins fence (form_over_groups once) rows n env t w code
       → IsAlongGroups num forms l ins fence (form_over_groups once) rows n env t w (tidied_code tidy (statement_in once (FromGroupId Y) bound ∷ []) code)
   along_groups fence once rows bound is n env (Reshape y t) w code h = (h.0, along_groups fence once rows bound is n env t (λ r cs p. w r cs (result_position num y p)) code h.1)
-  along_groups fence once rows bound is n env (Map WorkGroup m loads xs b) w code h =
+  along_groups fence once rows bound is n env (Map (Over Groups dimension.X) m loads xs b) w code h =
       let above : List Around = statement_in once (FromGroupId Y) bound ∷ [] in (
         tidy [] h.0,
         tidied_code tidy (statement_in once (FromGroupId Y) bound ∷ statement_in (forms.columns.once m) (FromGroupId X) h.0 ∷ []) h.1,
@@ -145,7 +147,7 @@ module _ {A : Type 0} (num : A → ℕ) (forms : GridForms A) (l : Launch) (ins 
   over_grid : (fence : ℕ → Fencing) (env : ℕ → Marks) (t : Term A) (w : Marks) (code : Code) → IsOverGrid num forms l ins fence env t w code → IsOverGrid num forms l ins fence env t w (tidied_code tidy [] code)
   over_grid fence env (Reshape y t) w code h = (h.0, over_grid fence env t (λ cs p. w cs (result_position num y p)) code h.1)
   over_grid fence env (LetArray v b) w code h = over_grid fence (push (argument_marks l ins num env 0 v) env) b w code h
-  over_grid fence env (Map WorkGroupRows n loads xs b) w code h =
+  over_grid fence env (Map (Over Groups dimension.Y) n loads xs b) w code h =
       let once = forms.rows.once n in
       let x = argument_marks l ins num env 0 xs in
       let inside : List Around = statement_in once (FromGroupId Y) h.0 ∷ [] in (

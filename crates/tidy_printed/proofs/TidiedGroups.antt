@@ -1,19 +1,20 @@
 -- Tidied, a map over work-groups is what it was printed for.
-use Rattle.std.proofs.Common.{◌≡◌, ℕ, ◌+◌, ◌<◌, Bool, true, false, List, [], ◌∷◌, Some, refl, sym, ap, ◌∙◌}
+use Rattle.std.proofs.Common.{◌≡◌, ℕ, ◌+◌, ◌<◌, Bool, true, List, [], ◌∷◌, Some, ap, ◌∙◌}
 use Rattle.size_arith.specs.declared.poly.Monomial.{Monomial}
+use Rattle.lift_tree.specs.declared.term.Level.TheVariants.{Groups, Items}
+use Rattle.lift_tree.specs.declared.term.Dimension.TheVariants.{X}
 use Rattle.kernel_tree.specs.Formula.{Formula, bound_value}
 use Rattle.kernel_tree.specs.Code.{Local as LocalArray, Code, End}
 use Rattle.kernel_tree.specs.Launch.{Launch, ids_of}
 use Rattle.barrier_placement.specs.Fencing.{Fencing, Open, Fenced}
 use Rattle.lift_ir.specs.Layouts.{result_position}
-use Rattle.lift_ir.specs.Terms.{LoadSet, WorkGroup, Local, LocalMemory, Term, Bound, Source, Both, Project, Reshape, LetArray, Map, Copy, push}
+use Rattle.lift_ir.specs.Terms.{LoadSet, Over, LocalMemory, Term, Bound, Source, Both, Project, Reshape, LetArray, Map, Copy, push}
 use Rattle.lift_ir.specs.Scalars.{at_index}
 use Rattle.printed_form.specs.Counts.{no_variables, load_count, local_count}
 use Rattle.printed_form.specs.MapForms.{MapForm, MapForms, form_over_groups, statement_over_groups, variables_in}
 use Rattle.printed_form.specs.Marks.{Marks, laid_in, loaded_marks}
 use Rattle.printed_form.specs.Form.{start_of, stride_of, IsTurnOf, argument_marks}
 use Rattle.group_phases.specs.Epochs.{IsPast}
-use Rattle.group_phases.specs.Strides.{statement_of}
 use Rattle.group_form.specs.Stages.{marks_of}
 use Rattle.group_form.specs.Uses.{phases_in}
 use Rattle.group_form.specs.Form.{Used, used_after, IsLocalMap, IsGroupArgument, IsGroupWritten, IsGroupTurn, IsOverGroups}
@@ -28,12 +29,8 @@ past tidy around Open before after h = ap (tidied_code tidy around) h
 past tidy around (Fenced on_local on_global) before after h = ap (tidied_code tidy around) h
 
 -- the statement over groups
-over : (once : Bool) (b : Formula) (body : Code) → statement_over_groups once b body ≡ statement_of (form_over_groups once) (start_of WorkGroup) (stride_of WorkGroup) b body
-over false b body = refl
-over true b body = refl
-
-tidied_over : (tidy : Change) (once : Bool) (b : Formula) (body : Code) → tidied_code tidy [] (statement_over_groups once b body) ≡ statement_over_groups once (tidy [] b) (tidied_code tidy (statement_in once (start_of WorkGroup) b ∷ []) body)
-tidied_over tidy once b body = ap (tidied_code tidy []) (over once b body) ∙ tidied_statement tidy [] once (start_of WorkGroup) (stride_of WorkGroup) b body ∙ sym (over once (tidy [] b) (tidied_code tidy (statement_in once (start_of WorkGroup) b ∷ []) body))
+tidied_over : (tidy : Change) (once : Bool) (b : Formula) (body : Code) → tidied_code tidy [] (statement_over_groups X once b body) ≡ statement_over_groups X once (tidy [] b) (tidied_code tidy (statement_in once (start_of (Over Groups X)) b ∷ []) body)
+tidied_over tidy once b body = tidied_statement tidy [] once (start_of (Over Groups X)) (stride_of (Over Groups X)) b body
 
 module _ {A : Type 0} (loaded : TidiedLoadsArePrinted) (mapped : TidiedMapsArePrinted A) (num : A → ℕ) (forms : MapForms A) (l : Launch) (ins : ℕ → Marks) (fence : ℕ → Fencing) (tidy : Change) (keeps : KeepsValues tidy l) where
   -- within the map over groups
@@ -42,18 +39,18 @@ module _ {A : Type 0} (loaded : TidiedLoadsArePrinted) (mapped : TidiedMapsArePr
     outer = form_over_groups once
 
     abbrev around : List Around
-    around = statement_in once (start_of WorkGroup) bound ∷ []
+    around = statement_in once (start_of (Over Groups X)) bound ∷ []
 
     abbrev tidied : Code → Code
     tidied = tidied_code tidy around
 
-    stands : (item i : ℕ) → i < turns → IsTurnOf l item WorkGroup i → StandsIn (ids_of l item) around (variables_in outer [] i)
-    stands item i lt own = entered l item [] [] once (start_of WorkGroup) (stride_of WorkGroup) bound turns i tt is lt own
+    stands : (item i : ℕ) → i < turns → IsTurnOf l item (Over Groups X) i → StandsIn (ids_of l item) around (variables_in outer [] i)
+    stands item i lt own = entered l item [] [] once (start_of (Over Groups X)) (stride_of (Over Groups X)) bound turns i tt is lt own
 
     local_map : (env : (turn var : ℕ) → Marks) (u : Used) (len : A) (loads : LoadSet) (marks : ℕ → Marks) (b : Term A) (w : ℕ → Marks) (code rest : Code)
         → IsLocalMap num forms l ins fence outer turns env u len loads marks b w code rest → IsLocalMap num forms l ins fence outer turns env u len loads marks b w (tidied code) (tidied rest)
     local_map env u len loads marks b w code rest h = λ item i here lt own.
-        mapped l item ins num tidy around (variables_in outer [] i) (forms.local len) Local (num len) (env i) u.privates u.variables loads (marks i) (w i) b code rest keeps here (stands item i lt own) (h item i here lt own)
+        mapped l item ins num tidy around (variables_in outer [] i) (forms.local len) (Over Items X) (num len) (env i) u.privates u.variables loads (marks i) (w i) b code rest keeps here (stands item i lt own) (h item i here lt own)
 
     mutual
       group_argument : (env : (turn var : ℕ) → Marks) (u : Used) (t : Term A) (code rest : Code)
@@ -73,7 +70,7 @@ module _ {A : Type 0} (loaded : TidiedLoadsArePrinted) (mapped : TidiedMapsArePr
       group_written env u (Reshape y t) w code rest h = (h.0, group_written env u t (λ i cs p. w i cs (result_position num y p)) code rest h.1)
       group_written env u (LetArray v b) w code rest h =
           (tidied h.0, group_argument env u v code h.0 h.1, group_written (λ i. push (marks_of num ins env u.locals v i) (env i)) (used_after u v) b w h.0 rest h.2)
-      group_written env u (Map Local n loads xs b) w code rest h = (
+      group_written env u (Map (Over Items X) n loads xs b) w code rest h = (
         tidied h.0,
         tidied h.1,
         group_argument env u xs code h.0 h.2,
@@ -95,9 +92,9 @@ module _ {A : Type 0} (loaded : TidiedLoadsArePrinted) (mapped : TidiedMapsArePr
   over_groups : (env : ℕ → Marks) (t : Term A) (w : Marks) (code : Code) → IsOverGroups num forms l ins fence env t w code → IsOverGroups num forms l ins fence env t w (tidied_code tidy [] code)
   over_groups env (Reshape y t) w code h = (h.0, over_groups env t (λ cs p. w cs (result_position num y p)) code h.1)
   over_groups env (LetArray v b) w code h = over_groups (push (argument_marks l ins num env 0 v) env) b w code h
-  over_groups env (Map WorkGroup n loads xs b) w code h = (
+  over_groups env (Map (Over Groups X) n loads xs b) w code h = (
     tidy [] h.0,
-    tidied_code tidy (statement_in (forms.once n) (start_of WorkGroup) h.0 ∷ []) h.1,
+    tidied_code tidy (statement_in (forms.once n) (start_of (Over Groups X)) h.0 ∷ []) h.1,
     ap (tidied_code tidy []) h.2 ∙ tidied_over tidy (forms.once n) h.0 h.1,
     keeps.bound h.0 (num n) h.3,
     group_turn (forms.once n) h.0 (num n) h.3 env loads (argument_marks l ins num env 0 xs) b w h.1 h.4,

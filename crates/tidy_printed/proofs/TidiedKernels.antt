@@ -4,9 +4,11 @@ use Rattle.size_arith.specs.declared.poly.Monomial.{Monomial}
 use Rattle.kernel_tree.specs.Code.{Code, End}
 use Rattle.kernel_tree.specs.Launch.{Launch, item_count, ids_of}
 use Rattle.lift_tree.specs.Annotations.{type_in}
+use Rattle.lift_tree.specs.declared.term.Level.TheVariants as level
+use Rattle.lift_tree.specs.declared.term.Dimension.TheVariants.{X, Y}
 use Rattle.lift_ir.specs.AtLaunch.{length_at, ty_at}
 use Rattle.lift_ir.specs.Layouts.{result_position}
-use Rattle.lift_ir.specs.Terms.{Global, GlobalRows, Term, Reshape, LetArray, Map, push}
+use Rattle.lift_ir.specs.Terms.{Over, Term, Reshape, LetArray, Map, push}
 use Rattle.lift_ir.specs.Scalars.{at_index}
 use Rattle.printed_form.specs.Counts.{Count, more, no_variables, load_count, variable_count, private_count}
 use Rattle.printed_form.specs.MapForms.{Looped}
@@ -30,10 +32,10 @@ module _ {A : Type 0} (l : Launch) (item : ℕ) (ins : ℕ → Marks) (num : A �
   along_row : (around : List Around) (ts : List ℕ) → StandsIn (ids_of l item) around ts → (env : ℕ → Marks) (a : ℕ) (n : Count) (t : Term A) (w : Marks) (code rest : Code)
       → IsAlongRow l item ins num ts env a n t w code rest → IsAlongRow l item ins num ts env a n t w (tidied_code tidy around code) (tidied_code tidy around rest)
   along_row around ts stands env a n (Reshape y t) w code rest h = (h.0, along_row around ts stands env a n t (λ cs q. w cs (result_position num y q)) code rest h.1)
-  along_row around ts stands env a n (Map Global len loads xs b) w code rest h = (
+  along_row around ts stands env a n (Map (Over level.Launch X) len loads xs b) w code rest h = (
     tidied_code tidy around h.0,
     argument l item ins num tidy keeps in_launch around ts stands env a n xs code h.0 h.1,
-    maps_are l item ins num tidy around ts Looped Global (num len) env (a + private_count xs) (more n (variable_count xs)) loads (argument_marks l ins num env a xs) w b h.0 rest keeps in_launch stands h.2,
+    maps_are l item ins num tidy around ts Looped (Over level.Launch X) (num len) env (a + private_count xs) (more n (variable_count xs)) loads (argument_marks l ins num env a xs) w b h.0 rest keeps in_launch stands h.2,
   )
   along_row around ts stands env a n _ w code rest h = absurd h
 
@@ -45,14 +47,14 @@ module _ {A : Type 0} (l : Launch) (item : ℕ) (ins : ℕ → Marks) (num : A �
     argument l item ins num tidy keeps in_launch [] [] tt env a n v code h.0 h.1,
     over_launch (push (argument_marks l ins num env a v) env) (a + private_count v) (more n (variable_count v)) b w h.0 rest h.2,
   )
-  over_launch env a n (Map Global len loads xs b) w code rest h = along_row [] [] tt env a n (Map Global len loads xs b) w code rest h
-  over_launch env a n (Map GlobalRows len loads xs b) w code rest h =
+  over_launch env a n (Map (Over level.Launch X) len loads xs b) w code rest h = along_row [] [] tt env a n (Map (Over level.Launch X) len loads xs b) w code rest h
+  over_launch env a n (Map (Over level.Launch Y) len loads xs b) w code rest h =
       let x = argument_marks l ins num env a xs in
       let m = more n (variable_count xs) in
       let inner_env : ℕ → ℕ → Marks = λ i. push (loaded_marks loads (at_index i x) m) env in (
         tidied_code tidy [] h.0,
         argument l item ins num tidy keeps in_launch [] [] tt env a n xs code h.0 h.1,
-        loop l item ins tidy keeps in_launch [] [] tt GlobalRows (num len)
+        loop l item ins tidy keeps in_launch [] [] tt (Over level.Launch Y) (num len)
             (λ i body. (inner : Code) × IsLoaded l item ins ([] ++ i ∷ []) loads (at_index i x) m body inner
             × IsAlongRow l item ins num ([] ++ i ∷ []) (inner_env i) (a + private_count xs) (more m (load_count loads)) b (at_index i w) inner End)
             h.0 rest

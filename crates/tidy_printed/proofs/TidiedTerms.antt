@@ -9,8 +9,7 @@ use Rattle.printed_form.specs.Counts.{Count, more, held_count, let_variables, lo
 use Rattle.printed_form.specs.Marks.{Marks, laid_in, held_marks, loaded_marks}
 use Rattle.printed_form.specs.Expressions.{held, exprs}
 use Rattle.printed_form.specs.Form.{argument_marks, start_of, stride_of, IsLoop, IsFoldTurn, IsArgumentWork, IsWritten}
-use Rattle.printed_form.specs.MapForms.{MapForm, Looped, Guarded, Alone}
-use Rattle.group_phases.specs.Strides.{AreTurnsFrom}
+use Rattle.printed_form.specs.MapForms.{MapForm, Looped, Guarded, Alone, AreTurnsFrom}
 use Rattle.tidy_indices.specs.Around.{Around, InLoop, StandsIn}
 use Rattle.tidy_indices.specs.Laws.{Change, KeepsValues}
 use Rattle.tidy_kernels.specs.Pass.{tidied_code}

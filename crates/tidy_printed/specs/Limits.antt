@@ -6,11 +6,12 @@ use Rattle.std.specs.Prelude.{ℕ, ◌+◌, max, Bool, true, false, List, [], �
 use Rattle.lift_tree.specs.Annotations.{Annotation, type_in}
 use Rattle.lift_tree.specs.Tree.{Tree}
 use Rattle.lift_tree.specs.Typing.{Declared}
+use Rattle.lift_tree.specs.declared.term.Level.TheVariants.{Launch, Groups, Items}
 use Rattle.lift_ir.specs.AtLaunch.{shape_of}
 use Rattle.lift_ir.specs.Layouts.{Layout, Split, Join}
 use Rattle.lift_ir.specs.Types.{Shape, Ty, Scalar, PairOf, ArrayOf}
 use Rattle.lift_ir.specs.Standing.{Standing, stands_for}
-use Rattle.lift_ir.specs.Terms.{LoadSet, Skip, Take, TakeFour, Each, Kind, Global, WorkGroup, Local, Sequential, GlobalRows, WorkGroupRows, LocalRows, Term, Both, Project, Reshape, LetArray, LetElement, Map, Fold, Store, Copy, push}
+use Rattle.lift_ir.specs.Terms.{LoadSet, Skip, Take, TakeFour, Each, Kind, Over, Sequential, Term, Both, Project, Reshape, LetArray, LetElement, Map, Fold, Store, Copy, push}
 use Rattle.lift_ir.specs.Scalars.{by_side}
 use Rattle.index_expr.specs.Expression.{Expression, Literal, short_nodes}
 use Rattle.length_spelling.specs.Formulas.{spelled_length}
@@ -20,7 +21,7 @@ use Rattle.array_views.specs.Arrays.{spelled_shape}
 use Rattle.array_views.specs.Layouts.{spelled_layout}
 use Rattle.array_views.specs.NodeCounts.{node_counts, operand_nodes, result_nodes, placed_nodes}
 use Rattle.group_form.specs.GridChosen.{grid_forms_of}
-use Rattle.group_form.specs.GridTerms.{GridForms}
+use Rattle.group_form.specs.GridTerms.{GridForms, forms_along}
 
 -- how many nodes the index of a scalar, or the offset of a vector, may have, by its pair choices
 -- and the nodes of the indices; none where no array holds it
@@ -72,13 +73,10 @@ bound_limit Alone n after = after
 
 -- of a map of a kind
 abbrev pub form_of_map : {A : Type 0} → GridForms A → Kind → A → MapForm
+form_of_map forms (Over Launch d) n = Looped
+form_of_map forms (Over Groups d) n = form_over_groups ((forms_along forms d).once n)
+form_of_map forms (Over Items d) n = (forms_along forms d).local n
 form_of_map forms Sequential n = Looped
-form_of_map forms Global n = Looped
-form_of_map forms GlobalRows n = Looped
-form_of_map forms Local n = forms.columns.local n
-form_of_map forms LocalRows n = forms.rows.local n
-form_of_map forms WorkGroup n = form_over_groups (forms.columns.once n)
-form_of_map forms WorkGroupRows n = form_over_groups (forms.rows.once n)
 
 -- in arrays of this type, where lengths are spelled so
 abbrev pub array_nodes : {A : Type 0} → (A → Expression) → Shape A → IndexNodes

@@ -2,6 +2,8 @@
 -- kernels keeps the headline.
 use Rattle.std.specs.Prelude.{◌≡◌, ℕ, zero, suc, ◌*◌, ◌<◌, ◌^◌, Bool, true, false, List, [], ◌∷◌, length, slice_index, None}
 use Rattle.scalar_ops.specs.declared.op.Op.TheVariants.{Add, Sub, Mul, Div, Min, Max}
+use Rattle.lift_tree.specs.declared.term.Level.TheVariants.{Groups, Items}
+use Rattle.lift_tree.specs.declared.term.Dimension.TheVariants as dimension
 use Rattle.kernel_tree.specs.declared.tree.Dimension.TheVariants.{X}
 use Rattle.kernel_tree.specs.Formula.{Formula, Number, Size, Variable, LoopVariable, Binary}
 use Rattle.kernel_tree.specs.Code.{Input, Output, Local as LocalArray, FromZero, FromGroupId, FromLocalId, ByOne, ByGroupCount, ByLocalSize, Assigns, Loads, Stores, Code, End, Performs, Loops, Kernel}
@@ -10,7 +12,7 @@ use Rattle.barrier_placement.specs.declared.touches.Touch.{Touch}
 use Rattle.barrier_placement.specs.Needed.{Needed}
 use Rattle.lift_ir.specs.Types.{Ty, Scalar, ArrayOf, unflat}
 use Rattle.lift_ir.specs.Layouts.{Split, Join, Slide, Pad}
-use Rattle.lift_ir.specs.Terms.{Skip, Take, Each, WorkGroup, Local, LocalMemory, Term, Literal, Bound, Source, Apply, Both, Project, Reshape, Map, Fold, Store, Copy}
+use Rattle.lift_ir.specs.Terms.{Skip, Take, Each, Over, LocalMemory, Term, Literal, Bound, Source, Apply, Both, Project, Reshape, Map, Fold, Store, Copy}
 use Rattle.lift_ir.specs.Scalars.{Scalars, scalars_of, no_scalars}
 use Rattle.lift_ir.specs.Owner.{owner}
 use Rattle.printed_form.specs.MapForms.{all_loops}
@@ -55,14 +57,16 @@ use_of a w s q = record { phase = q; buffer = a; writes = w; aligned = s; local 
 -- a copy of the bound tile, of so many cells, in local memory
 abbrev pub copy_over : {A : Type 0} → (len : A) → (cells : ℕ) → Term A
 copy_over n cells =
-    Copy LocalMemory (numbers cells) (Map Local n Take (Bound 0) (Store Scalar (Bound 0)))
+    Copy LocalMemory (numbers cells)
+    (Map (Over Items dimension.X) n Take (Bound 0) (Store Scalar (Bound 0)))
 
 -- lengths may be numbers, or what spells them
 abbrev pub added_tiles_over : {A : Type 0} → (two tiles : A) → Term A
 added_tiles_over two tiles =
     Reshape (Join two)
-    (Map WorkGroup tiles Skip (Reshape (Split two) (Source 0))
-    (Map Local two Take (copy_over two 2) (Store Scalar (Apply Add (Bound 0) (Literal 1)))))
+    (Map (Over Groups dimension.X) tiles Skip (Reshape (Split two) (Source 0))
+    (Map (Over Items dimension.X) two Take (copy_over two 2)
+    (Store Scalar (Apply Add (Bound 0) (Literal 1)))))
 
 -- so many tiles
 abbrev pub added_tiles : ℕ → Term ℕ
@@ -96,14 +100,15 @@ pub record AddedTilesKeep : Type 0 where
 -- what a group makes of one tile
 abbrev pub half_named_tile : Term ℕ
 half_named_tile =
-    Map Local 2 (Each Take Skip)
+    Map (Over Items dimension.X) 2 (Each Take Skip)
     (Both true (copy_over 2 2) (Reshape (Join 1) (Reshape (Slide 1 1) (copy_over 2 2))))
     (Store Scalar (Project false (Bound 0)))
 
 -- and of so many tiles, joined
 abbrev pub half_named_tiles : ℕ → Term ℕ
 half_named_tiles tiles =
-    Reshape (Join 2) (Map WorkGroup tiles Skip (Reshape (Split 2) (Source 0)) half_named_tile)
+    Reshape (Join 2)
+    (Map (Over Groups dimension.X) tiles Skip (Reshape (Split 2) (Source 0)) half_named_tile)
 
 -- so the last phase doesn't use the second copy, and no barrier is needed
 pub record UnnamedCopiesAreUnused : Type 0 where
@@ -120,7 +125,7 @@ pub record UnnamedCopiesAreUnused : Type 0 where
 -- what a group makes of one tile: the sums of its two windows
 abbrev pub summed_tile : Term ℕ
 summed_tile =
-    Map Local 2 Skip (Reshape (Slide 3 1) (copy_over 4 4))
+    Map (Over Items dimension.X) 2 Skip (Reshape (Slide 3 1) (copy_over 4 4))
     (Fold 3 Take Scalar (Bound 0) (Literal 0) (Apply Add (Bound 1) (Bound 0)))
 
 -- the tiles of the padded input, which overlap by two elements
@@ -130,7 +135,9 @@ padded_tiles tiles = Reshape (Slide 4 2) (Reshape (Pad 1 1 (tiles * 2)) (Source 
 -- the sums of so many tiles, joined
 abbrev pub summed_tiles : ℕ → Term ℕ
 summed_tiles tiles =
-    Reshape (Join 1) (Reshape (Join 2) (Map WorkGroup tiles Skip (padded_tiles tiles) summed_tile))
+    Reshape (Join 1)
+    (Reshape (Join 2)
+    (Map (Over Groups dimension.X) tiles Skip (padded_tiles tiles) summed_tile))
 
 -- where element i1 of tile i0 lies, two elements a tile
 abbrev pub tile_place : Formula

@@ -1,6 +1,8 @@
 -- Worked kernels.
 use Rattle.std.specs.Prelude.{◌≡◌, ℕ, ◌+◌, ◌*◌, ◌/◌, ◌%◌, ◌<◌, ◌^◌, true, false, List, [], ◌∷◌, length, map, None}
 use Rattle.scalar_ops.specs.declared.op.Op.TheVariants.{Add, Mul, Div}
+use Rattle.lift_tree.specs.declared.term.Level.TheVariants as level
+use Rattle.lift_tree.specs.declared.term.Dimension.TheVariants as dimension
 use Rattle.kernel_tree.specs.declared.tree.Dimension.TheVariants.{X, Y}
 use Rattle.kernel_tree.specs.Formula.{Formula, Number, Variable, LoopVariable, Size, Binary, Vector, Spread}
 use Rattle.kernel_tree.specs.Formula as lanes
@@ -8,7 +10,7 @@ use Rattle.kernel_tree.specs.Code.{Input, Output, Private, FromZero, ByOne, From
 use Rattle.kernel_tree.specs.Launch.{Launch, Cells, IsWhole, IsFlat, in_a_row, item_at, item_count}
 use Rattle.lift_ir.specs.Types.{Scalar, PairOf, ArrayOf, four}
 use Rattle.lift_ir.specs.Layouts.{Split, Join}
-use Rattle.lift_ir.specs.Terms.{Skip, Take, TakeFour, Global, GlobalRows, Sequential, PrivateMemory, Term, Literal, Bound, Source, Apply, ApplyLanes, Both, Project, Reshape, Map, Fold, Store, Copy}
+use Rattle.lift_ir.specs.Terms.{Skip, Take, TakeFour, Over, Sequential, PrivateMemory, Term, Literal, Bound, Source, Apply, ApplyLanes, Both, Project, Reshape, Map, Fold, Store, Copy}
 use Rattle.printed_form.specs.Headline.{EveryRunKeeps}
 
 -- one work-item, and no sizes
@@ -157,7 +159,9 @@ SwapsKeep =
 
 -- ---- a map over the launch that adds 1 to each of N elements
 abbrev pub increments : ℕ → Term ℕ
-increments n = Map Global n Take (Source 0) (Store Scalar (Apply Add (Bound 0) (Literal 1)))
+increments n =
+    Map (Over level.Launch dimension.X) n Take (Source 0)
+    (Store Scalar (Apply Add (Bound 0) (Literal 1)))
 
 -- o0[i0] = (v0 + 1u);
 abbrev pub turn_store : Code
@@ -204,7 +208,7 @@ IncrementsKeep =
 abbrev pub four_increments : ℕ → Term ℕ
 four_increments n =
     Reshape (Join 4)
-    (Map Global n TakeFour (Reshape (Split 4) (Source 0))
+    (Map (Over level.Launch dimension.X) n TakeFour (Reshape (Split 4) (Source 0))
     (Store four (ApplyLanes Add true false (Bound 0) (Literal 1))))
 
 -- vstore4((w0 + (uint4)(1u)), i0, o0);
@@ -245,8 +249,9 @@ FourIncrementsKeep =
 -- ---- a pair of maps over the launch that adds 1 to each element of N rows of M
 abbrev pub row_increments : (n m : ℕ) → Term ℕ
 row_increments n m =
-    Map GlobalRows n Skip (Source 0)
-    (Map Global m Take (Bound 0) (Store Scalar (Apply Add (Bound 0) (Literal 1))))
+    Map (Over level.Launch dimension.Y) n Skip (Source 0)
+    (Map (Over level.Launch dimension.X) m Take (Bound 0)
+    (Store Scalar (Apply Add (Bound 0) (Literal 1))))
 
 -- i0 * s1 + i1
 abbrev pub place_in_rows : Formula

@@ -18,7 +18,7 @@ use Rattle.lift_tree.specs.Typing.{Declared, constant}
 use Rattle.lift_tree.specs.Annotations.{Annotation, Leaf, One, Two, Three, Annotates}
 use Rattle.lift_ir.specs.Types.{Scalar, ArrayOf, four}
 use Rattle.lift_ir.specs.Layouts.{Split, Join}
-use Rattle.lift_ir.specs.Terms.{Skip, Take, TakeFour, PrivateMemory, Global, GlobalRows, Sequential, Literal, Bound, Source, Apply, ApplyLanes, Reshape, Map, Fold, Store, Copy}
+use Rattle.lift_ir.specs.Terms.{Skip, Take, TakeFour, PrivateMemory, Over, Sequential, Literal, Bound, Source, Apply, ApplyLanes, Reshape, Map, Fold, Store, Copy}
 use Rattle.lift_ir.specs.AtLaunch.{length_at}
 use Rattle.lift_ir.specs.Lowering.{Written, Lowered, lower}
 use Rattle.lift_ir.specs.Lowerable.{IsLowerable, IsStaged}
@@ -54,7 +54,7 @@ IncrementsAreLowered =
     (d : Declared) (bases : List ℕ) (n : List Monomial)
     → slice_get d.inputs 0 ≡ Some (types.ArrayOf types.U32 n) → length_at bases n < 2 ^ 31
     → IsLoweredTo d bases increments (increments_types n)
-    (Map Global n Take (Source 0) (Store Scalar (Apply Add (Bound 0) (Literal 1))))
+    (Map (Over Launch X) n Take (Source 0) (Store Scalar (Apply Add (Bound 0) (Literal 1))))
 
 -- asScalar(mapGlb(\x. x + 1, asVector(4, A))), of 8 elements
 abbrev pub four_increments : Tree
@@ -78,7 +78,7 @@ FourIncrementsAreLowered =
     → slice_get d.inputs 0 ≡ Some (types.ArrayOf types.U32 (constant 8))
     → IsLoweredTo d bases four_increments four_increments_types
     (Reshape (Join (constant 4))
-    (Map Global (constant 2) TakeFour (Reshape (Split (constant 4)) (Source 0))
+    (Map (Over Launch X) (constant 2) TakeFour (Reshape (Split (constant 4)) (Source 0))
     (Store four (ApplyLanes Add true false (Bound 0) (Literal 1)))))
 
 -- mapGlb1(\r. mapGlb(\x. x + 1, r), A)
@@ -101,8 +101,8 @@ RowIncrementsAreLowered =
     → slice_get d.inputs 0 ≡ Some (types.ArrayOf (types.ArrayOf types.U32 m) n)
     → length_at bases n < 2 ^ 31 → length_at bases m < 2 ^ 31
     → IsLoweredTo d bases row_increments (row_increments_types n m)
-    (Map GlobalRows n Skip (Source 0)
-    (Map Global m Take (Bound 0) (Store Scalar (Apply Add (Bound 0) (Literal 1)))))
+    (Map (Over Launch Y) n Skip (Source 0)
+    (Map (Over Launch X) m Take (Bound 0) (Store Scalar (Apply Add (Bound 0) (Literal 1)))))
 
 -- foldSeq(\a x. a + x, 0, toPrivate(mapSeq(\x. x + 1, A))), of 5 elements
 abbrev pub five : List Monomial

@@ -3,9 +3,8 @@ use Rattle.std.proofs.lemmas.Result.{IfOk-weaker}
 use Rattle.kernel_tree.specs.declared.tree.Dimension.TheVariants.{Y}
 use Rattle.kernel_tree.specs.Code.{FromGroupId, ByGroupCount}
 use Rattle.kernel_tree.specs.Tree.{formula_of}
-use Rattle.printed_form.specs.MapForms.{form_over_groups}
+use Rattle.printed_form.specs.MapForms.{form_over_groups, statement_of}
 use Rattle.lowering.specs.Terms.{kind_of, load_set_of, map_of, term_of}
-use Rattle.group_phases.specs.Strides.{statement_of}
 use Rattle.group_form.specs.GridPrinter.{print_grid}
 use Rattle.array_views.specs.Views.{view_in}
 use Rattle.item_emit.specs.Blocks.{code_in}

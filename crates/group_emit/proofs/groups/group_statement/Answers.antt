@@ -1,5 +1,6 @@
 use Rattle.std.proofs.Common.{◌≡◌, ◌∙◌}
 use Rattle.std.proofs.lemmas.Result.{IfOk-weaker}
+use Rattle.lift_tree.specs.declared.term.Dimension.TheVariants.{X}
 use Rattle.kernel_tree.specs.Tree.{formula_of}
 use Rattle.printed_form.specs.Counts.{no_variables}
 use Rattle.printed_form.specs.MapForms as map_forms
@@ -18,7 +19,7 @@ returns c =
     let s = c.args.setting.now in
     let m = c.args.map.now in
     IfOk-weaker c.statement_over_groups.result
-    (λ (b : Block). code_in b ≡ map_forms.statement_over_groups c.is_over_one-once.result (formula_of c.in_ok-length.length) (code_in c.in_ok-turn.turn))
+    (λ (b : Block). code_in b ≡ map_forms.statement_over_groups X c.is_over_one-once.result (formula_of c.in_ok-length.length) (code_in c.in_ok-turn.turn))
     (λ (b : Block). code_in b ≡ printer.print_groups (spell_of s) (forms_in s) (inputs_of s) (fence_in s) (scope_of c.args.scope.now) (map_of m) (view_in c.args.target.now))
     (λ b h. h ∙ over_groups (spell_of s) (forms_in s) (inputs_of s) (fence_in s) 0 (scope_of c.args.scope.now) (record { locals = 0; privates = 0; variables = no_variables; phases = 0 })
     (kind_of m.kind) m.length (load_set_of m.loads) (term_of m.array) (term_of m.body) (view_in c.args.target.now)

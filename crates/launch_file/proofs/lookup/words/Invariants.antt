@@ -2,7 +2,7 @@ use Rattle.std.proofs.Common.{◌≡◌, ◌≤◌, ◌++◌, drop}
 use Rattle.std.specs.Prelude.{length, option_map, vec_capacity, vec_len}
 use Rattle.serde_json.specs.View.{items_view}
 use Rattle.launch_file.specs.Json.{words_in}
-use Rattle.launch_file.proofs.json.words.Given as goal
+use Rattle.launch_file.proofs.lookup.words.Given as goal
 
 abbrev pub invariant-loop-value : goal.invariant-loop-value
 invariant-loop-value l =
